@@ -1,0 +1,3 @@
+-- Laws that more than one proof cites.
+pub mod NotANumber
+pub mod Product

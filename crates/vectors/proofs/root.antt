@@ -1,0 +1,5 @@
+-- Laws of the square root, beside the proofs of its functions.
+pub mod Whole
+pub mod Binary
+pub mod Nearest
+pub mod Examples

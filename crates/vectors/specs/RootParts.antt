@@ -1,0 +1,17 @@
+-- What the root's private functions promise each other.
+use Prim.Native.Nat.{ℕ, _+_, _*_, _^_, _≤_, _<_}
+use mathlib.Core.Bool.{false}
+use lib.Ieee.{Float}
+use lib.Ieee.Exact.{HasValue}
+
+-- x is q * 2 ^ p * 4 ^ -149, with a q of 24 digits. The bounds on p are those of the smallest and the largest binary32.
+pub record Parts (x : Float) (q p : ℕ) : Type 0 where
+  pub q-least : 2 ^ 23 ≤ q
+  pub q-most : q < 2 ^ 24
+  pub p-least : 126 ≤ p
+  pub p-most : p ≤ 402
+  pub value : HasValue x false (q * 2 ^ p) (4 ^ 149)
+
+-- r is nearest to the root of a: (2 * r - 1) ^ 2 < 4 * a < (2 * r + 1) ^ 2, with the ones cancelled
+abbrev pub Near : ℕ → ℕ → Type 0
+Near a r = (r * r < a + r) × (a ≤ r * r + r)

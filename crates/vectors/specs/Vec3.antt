@@ -1,0 +1,58 @@
+-- Vectors of three: document 01's lines on glam, one IEEE 754 operation at a time and in this order.
+use mathlib.Core.Bool.{_&&_, cond}
+use lib.Ieee.{Float}
+use Rattle.vectors.specs.declared.vec3.Vec3.{Vec3}
+use Rattle.vectors.specs.Number.{_⊕_, _⊖_, _⊗_, _⊘_, _>ᶠ_, zero, one, finite}
+use Rattle.vectors.specs.Root.{root}
+
+infixl 65 _+ᵥ_ _-ᵥ_
+infixl 70 _*ᵥ_ _/ᵥ_
+unfoldable pub zeroVec : Vec3
+zeroVec = record { x = zero; y = zero; z = zero }
+
+unfoldable pub _+ᵥ_ : Vec3 → Vec3 → Vec3
+u +ᵥ v = record { x = u .x ⊕ v .x; y = u .y ⊕ v .y; z = u .z ⊕ v .z }
+
+unfoldable pub _-ᵥ_ : Vec3 → Vec3 → Vec3
+u -ᵥ v = record { x = u .x ⊖ v .x; y = u .y ⊖ v .y; z = u .z ⊖ v .z }
+
+-- the product with a scalar, from either side
+unfoldable pub _*ᵥ_ : Vec3 → Float → Vec3
+v *ᵥ s = record { x = v .x ⊗ s; y = v .y ⊗ s; z = v .z ⊗ s }
+
+unfoldable pub _/ᵥ_ : Vec3 → Float → Vec3
+v /ᵥ s = record { x = v .x ⊘ s; y = v .y ⊘ s; z = v .z ⊘ s }
+
+unfoldable pub dot : Vec3 → Vec3 → Float
+dot u v = u .x ⊗ v .x ⊕ u .y ⊗ v .y ⊕ u .z ⊗ v .z
+
+unfoldable pub cross : Vec3 → Vec3 → Vec3
+cross u v = record {
+  x = u .y ⊗ v .z ⊖ v .y ⊗ u .z;
+  y = u .z ⊗ v .x ⊖ v .z ⊗ u .x;
+  z = u .x ⊗ v .y ⊖ v .x ⊗ u .y;
+}
+
+unfoldable pub lengthSquared : Vec3 → Float
+unfolding dot
+lengthSquared v = dot v v
+
+unfoldable pub length : Vec3 → Float
+unfolding dot root
+length v = root (dot v v)
+
+unfoldable pub lengthRecip : Vec3 → Float
+unfolding length
+lengthRecip v = one ⊘ length v
+
+unfoldable pub normalize : Vec3 → Vec3
+unfolding lengthRecip _*ᵥ_
+normalize v = v *ᵥ lengthRecip v
+
+unfoldable pub normalizeOrZero : Vec3 → Vec3
+unfolding lengthRecip finite _*ᵥ_ zeroVec
+normalizeOrZero v = let s = lengthRecip v in cond (finite s && s >ᶠ zero) (v *ᵥ s) zeroVec
+
+unfoldable pub distanceSquared : Vec3 → Vec3 → Float
+unfolding _-ᵥ_ lengthSquared
+distanceSquared u v = lengthSquared (u -ᵥ v)
