@@ -1,0 +1,2 @@
+-- What the contracts of `src/pairs.rt` cite.
+pub mod Pairs
