@@ -1,0 +1,34 @@
+-- What the private functions of the 4D program promise each other of the scratch, of which the planes take the first 6 * count numbers, and those turned the next.
+use Prim.Native.Nat.{ℕ, _+_, _*_, _≤_, _<_}
+use mathlib.Core.Path.{_≡_}
+use mathlib.Core.List.{List, [], _++_}
+use lib.ListN.{length, take, drop, set}
+use lib.Ieee.{Float}
+use Rattle.solver.specs.declared.plane.Plane.{Plane}
+use Rattle.solver.specs.Plane.{planeAt, planesOf}
+use Rattle.solver.specs.FourD.{turnedAll, kept, turnBy}
+
+-- a plane stored as six numbers
+unfoldable pub written : List Float → ℕ → Plane → List Float
+written xs at plane =
+    set (set (set (set (set (set xs at (plane .point .x)) (at + 1) (plane .point .y)) (at + 2) (plane .point .z)) (at + 3) (plane .normal .x)) (at + 4) (plane .normal .y)) (at + 5) (plane .normal .z)
+
+-- there is room for count planes twice, and one of them is at the index
+abbrev pub Within : ℕ → ℕ → List Float → Type 0
+Within count index xs = (12 * count ≤ length xs) × (index < count)
+
+-- the planes stand as they did, and so do the numbers past the second half
+pub record Keeps (count : ℕ) (before after : List Float) : Type 0 where
+  pub same-length : length after ≡ length before
+  pub planes : take (6 * count) after ≡ take (6 * count) before
+  pub past : drop (12 * count) after ≡ drop (12 * count) before
+
+pub record TurnedOne (count : ℕ) (constraint : Plane) (index n : ℕ) (before after : List Float) (r : ℕ) : Type 0 where
+  pub keeps : Keeps count before after
+  pub few : r ≤ index + 1
+  pub turned : planesOf r (drop (6 * count) after) ≡ planesOf n (drop (6 * count) before) ++ kept (turnBy constraint (planeAt (drop (6 * index) before))) []
+
+pub record TurnedAll (count index : ℕ) (before after : List Float) (r : ℕ) : Type 0 where
+  pub keeps : Keeps count before after
+  pub few : r ≤ index
+  pub turned : planesOf r (drop (6 * count) after) ≡ turnedAll (planeAt (drop (6 * index) before)) (planesOf index before)

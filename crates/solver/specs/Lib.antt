@@ -1,0 +1,7 @@
+-- The linear programs, as definitions on lists of planes: document 01's modules 2 to 6, each to be read beside the function of linear_programming.rs that its first line names.
+pub mod Plane
+pub mod AlongLine
+pub mod AlongPlane
+pub mod ThreeD
+pub mod FourD
+pub mod FourDScratch
