@@ -5,3 +5,4 @@ pub mod AlongPlane
 pub mod ThreeD
 pub mod FourD
 pub mod FourDScratch
+pub mod Neighbour

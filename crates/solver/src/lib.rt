@@ -4,5 +4,6 @@
 pub mod along_line;
 pub mod along_plane;
 pub mod four_d;
+pub mod neighbour;
 pub mod plane;
 pub mod three_d;
