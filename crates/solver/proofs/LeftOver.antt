@@ -1,11 +1,9 @@
 -- What a `let .. else` leaves over is a failure, and no constraint changes a failure.
 use mathlib.Core.Path.{_≡_, refl}
 use mathlib.Core.List.{List, [], _∷_}
-use mathlib.Core.Logic.{inl, inr}
-use native.Mathlib.Omega.{arith}
 use lib.Ieee.{Float}
 use denote.Enum.Declared
-use types.Run.{OneOf}
+use types.Run.{OneOf, miss}
 use Rattle.solver.specs.declared.plane.Plane.{Plane}
 use Rattle.solver.specs.declared.plane.Optimum.{Optimum}
 use Rattle.solver.specs.declared.plane.Answer.{Answer}
@@ -17,21 +15,16 @@ use Rattle.solver.specs.ThreeD.{byPlane}
 use Rattle.solver.proofs.plane.Answer as Answer'
 use Rattle.solver.proofs.three_d.Outcome as Outcome'
 
--- of three cases it is the second or the third
-not-the-first : OneOf (1 ∷ 2 ∷ []) 0 → ⊥
-not-the-first (inl e) = omega arith
-not-the-first (inr e) = omega arith
-
 pub answer-kept : (plane : Plane) (radius : Float) (optimum : Optimum) (a : Answer) → OneOf (1 ∷ 2 ∷ []) (Declared.tagOf Answer'.the-type a)
     → (passed : List Plane) (constraint : Plane) → byConstraint plane radius optimum passed constraint a ≡ a
 unfolding byConstraint
-answer-kept plane radius optimum (answer.Value v) k passed constraint = absurd (not-the-first k)
+answer-kept plane radius optimum (answer.Value v) k passed constraint = absurd (miss (1 ∷ 2 ∷ []) 0 tt k)
 answer-kept plane radius optimum answer.Infeasible k passed constraint = refl
 answer-kept plane radius optimum answer.BadClamp k passed constraint = refl
 
 pub outcome-kept : (radius : Float) (optimum : Optimum) (o : Outcome) → OneOf (1 ∷ 2 ∷ []) (Declared.tagOf Outcome'.the-type o)
     → (passed : List Plane) (constraint : Plane) → byPlane radius optimum passed constraint o ≡ o
 unfolding byPlane
-outcome-kept radius optimum (outcome.Feasible v) k passed constraint = absurd (not-the-first k)
+outcome-kept radius optimum (outcome.Feasible v) k passed constraint = absurd (miss (1 ∷ 2 ∷ []) 0 tt k)
 outcome-kept radius optimum (outcome.Infeasible f) k passed constraint = refl
 outcome-kept radius optimum (outcome.BadClamp i) k passed constraint = refl

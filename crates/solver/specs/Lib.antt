@@ -6,3 +6,7 @@ pub mod ThreeD
 pub mod FourD
 pub mod FourDScratch
 pub mod Neighbour
+pub mod Checks
+pub mod Solve
+pub mod Velocity
+pub mod VelocityScratch

@@ -62,7 +62,7 @@ fn turn_by(constraint: Plane, previous: Plane) -> Turned
 }
 
 // Writes a plane as six numbers.
-fn write_plane(numbers: &mut [f32], at: usize, plane: Plane)
+pub(crate) fn write_plane(numbers: &mut [f32], at: usize, plane: Plane)
     requires { ⌜ at + 6 ≤ length (now numbers) ⌝ }
     ensures { λ _. ⌜ now (numbers .exit) ≡ written (now (numbers .entry)) at plane ⌝ }
 {

@@ -14,7 +14,7 @@ use Rattle.solver.specs.declared.four_d.Turned.{Turned}
 use Rattle.solver.specs.declared.four_d.Turned.the-variants.{Kept, LeftOut}
 use Rattle.solver.specs.Plane.{planeAt, planesOf, planesIn}
 use Rattle.solver.specs.FourD.{kept, turnBy, turnedAll, halfCleared}
-use Rattle.solver.specs.FourDScratch.{written, Keeps, TurnedOne}
+use Rattle.solver.specs.FourDScratch.{numbersOfPlane, written, Keeps, TurnedOne}
 use Rattle.solver.proofs.Planes.{rest, rest-step, passed-step, planes-take, planes-lent, planeAt-take, drop-take}
 
 -- ---- a plane written
@@ -44,12 +44,9 @@ written-after n xs at p h =
     let h5 : at + 5 < n = omega arith in
     simp drop-set-lt
 
-numbers : Plane → List Float
-numbers p = p .point .x ∷ p .point .y ∷ p .point .z ∷ p .normal .x ∷ p .normal .y ∷ p .normal .z ∷ []
-
 -- six stores in a row
-written-is : (xs : List Float) (at : ℕ) (p : Plane) → written xs at p ≡ sets xs at (numbers p)
-unfolding written numbers
+written-is : (xs : List Float) (at : ℕ) (p : Plane) → written xs at p ≡ sets xs at (numbersOfPlane p)
+unfolding written numbersOfPlane
 written-is xs at p =
     let e2 : at + 2 ≡ suc (suc at) = omega arith in
     let e3 : at + 3 ≡ suc (suc (suc at)) = omega arith in
@@ -57,11 +54,16 @@ written-is xs at p =
     let e5 : at + 5 ≡ suc (suc (suc (suc (suc at)))) = omega arith in
     rw (add-one at, e2, e3, e4, e5)
 
+-- what stood before, the plane's numbers, and what stood after
+pub written-split : (xs : List Float) (at : ℕ) (p : Plane) → at + 6 ≤ length xs → written xs at p ≡ take at xs ++ (numbersOfPlane p ++ drop (at + 6) xs)
+unfolding numbersOfPlane
+written-split xs at p h = written-is xs at p ∙ sets-eq (numbersOfPlane p) xs at h ∙ append-assoc (take at xs) (numbersOfPlane p) (drop (at + 6) xs)
+
 pub written-read : (xs : List Float) (at : ℕ) (p : Plane) → at + 6 ≤ length xs → planeAt (drop at (written xs at p)) ≡ p
-unfolding planeAt numbers
+unfolding planeAt numbersOfPlane
 written-read xs at p h =
-    ap (λ (ys : List Float). planeAt (drop at ys)) (written-is xs at p ∙ sets-eq (numbers p) xs at h ∙ append-assoc (take at xs) (numbers p) (drop (at + 6) xs))
-    ∙ ap planeAt (drop-at (take at xs) (numbers p ++ drop (at + 6) xs) at (length-take-le at xs (omega arith)))
+    ap (λ (ys : List Float). planeAt (drop at ys)) (written-split xs at p h)
+    ∙ ap planeAt (drop-at (take at xs) (numbersOfPlane p ++ drop (at + 6) xs) at (length-take-le at xs (omega arith)))
 
 -- ---- planes in equal beginnings
 

@@ -1,0 +1,2 @@
+-- Laws of the velocity call, beside the proofs of its functions.
+pub mod Planes
