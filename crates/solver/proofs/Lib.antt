@@ -2,4 +2,5 @@
 pub mod Planes
 pub mod LeftOver
 pub mod NoBadClamp
+pub mod Refusals
 pub mod Examples

@@ -10,3 +10,4 @@ pub mod Checks
 pub mod Solve
 pub mod Velocity
 pub mod VelocityScratch
+pub mod Refusals
