@@ -35,7 +35,7 @@ fn refusal(number: usize, place: usize) -> Answer {
 }
 
 // The answer that a line asks for: `free W W W`, `relaxed K W W W` or `refused N P`.
-pub fn read_wanted(key: Key, fields: Fields) -> Wanted {
+pub(crate) fn read_wanted(key: Key, fields: Fields) -> Wanted {
     let count = fields.counts[0];
     match key {
         Key::Free => Wanted::Is(Answer {
@@ -64,7 +64,7 @@ pub fn read_wanted(key: Key, fields: Fields) -> Wanted {
     }
 }
 
-pub fn answer_of(reply: Reply) -> Answer {
+pub(crate) fn answer_of(reply: Reply) -> Answer {
     let velocity = reply.velocity();
     let mut answer = Answer {
         number: reply.number() as usize,
@@ -82,7 +82,7 @@ pub fn answer_of(reply: Reply) -> Answer {
     answer
 }
 
-pub fn is_same(a: Answer, b: Answer) -> bool
+pub(crate) fn is_same(a: Answer, b: Answer) -> bool
     ensures { λ r. ⌜ (r ≡ true → a ≡ b) ⌝ }
 {
     if a.number != b.number {

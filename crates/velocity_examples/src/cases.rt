@@ -22,7 +22,7 @@ pub struct Next {
 }
 
 // A request of +0s, no neighbours and no scratch.
-pub fn empty() -> Case
+pub(crate) fn empty() -> Case
     ensures { λ r. ⌜ Sized r ⌝ }
 {
     Case {
@@ -152,7 +152,7 @@ fn with_plane(case: Case, fields: Fields) -> Next
     changed(case)
 }
 
-pub fn change(case: Case, key: Key, fields: Fields) -> Next
+pub(crate) fn change(case: Case, key: Key, fields: Fields) -> Next
     requires { ⌜ Sized case ⌝ }
     ensures { λ r. ⌜ Sized (r .case) ⌝ }
 {

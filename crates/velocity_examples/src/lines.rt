@@ -30,7 +30,7 @@ enum Number {
 }
 
 // How many bytes stand before the first `byte`.
-pub fn length_until(text: &[u8], byte: u8) -> usize
+pub(crate) fn length_until(text: &[u8], byte: u8) -> usize
     ensures { λ r. ⌜ r ≤ length (now (text .entry)) ⌝ }
 {
     let mut n = 0;
@@ -43,7 +43,7 @@ pub fn length_until(text: &[u8], byte: u8) -> usize
     n
 }
 
-pub fn is_comment(text: &[u8]) -> bool {
+pub(crate) fn is_comment(text: &[u8]) -> bool {
     if text.len() == 0 {
         return true;
     }
@@ -51,7 +51,7 @@ pub fn is_comment(text: &[u8]) -> bool {
 }
 
 // What stands after the key.
-pub fn after_key(text: &[u8]) -> &[u8] {
+pub(crate) fn after_key(text: &[u8]) -> &[u8] {
     let end = length_until(text, b' ');
     if end < text.len() {
         let start = end + 1;
@@ -61,7 +61,7 @@ pub fn after_key(text: &[u8]) -> &[u8] {
     }
 }
 
-pub fn read_key(text: &[u8]) -> Key {
+pub(crate) fn read_key(text: &[u8]) -> Key {
     let end = length_until(text, b' ');
     let key = &text[0..end];
     if check::same(key, b"case") {
@@ -179,7 +179,7 @@ fn with_field(fields: Fields, field: &[u8]) -> Fields {
     with_count(fields, spelled(field, 10))
 }
 
-pub fn read_fields(text: &[u8]) -> Fields {
+pub(crate) fn read_fields(text: &[u8]) -> Fields {
     let mut fields = Fields {
         counts: [0; 2],
         counted: 0,
@@ -207,7 +207,7 @@ fn has(fields: Fields, counted: usize, worded: usize) -> bool {
 }
 
 // Whether a key has the fields that it asks for.
-pub fn is_formed(key: Key, fields: Fields) -> bool {
+pub(crate) fn is_formed(key: Key, fields: Fields) -> bool {
     match key {
         Key::At => {
             let words = fields.worded;

@@ -15,7 +15,7 @@ fn filled(fill: u32, index: usize) -> u32
     std::num::wrapping_add_u32(fill, index as u32)
 }
 
-pub fn fill_with(scratch: &mut [f32], fill: u32)
+pub(crate) fn fill_with(scratch: &mut [f32], fill: u32)
     requires { ⌜ length (now scratch) ≤ 800 ⌝ }
 {
     let mut index = 0;
@@ -61,7 +61,7 @@ fn wanted_word(
 }
 
 // The first index at which scratch does not hold what it is to hold, or its length.
-pub fn first_different(
+pub(crate) fn first_different(
     scratch: &[f32],
     number: usize,
     neighbours: usize,

@@ -15,7 +15,7 @@ pub enum Verdict {
     OtherScratch { index: usize, word: u32 },
 }
 
-pub fn judge(case: Case, wanted: Answer, got: Answer, scratch: &[f32]) -> Verdict
+pub(crate) fn judge(case: Case, wanted: Answer, got: Answer, scratch: &[f32]) -> Verdict
     requires { ⌜ Sized case × (length (now scratch) ≤ 800) ⌝ }
     ensures { λ r. ⌜ (r ≡ Verdict.Same → Same case wanted got (now (scratch .entry))) ⌝ }
 {
