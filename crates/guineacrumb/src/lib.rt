@@ -1,7 +1,19 @@
 // The static library for C and Rust: thin exported functions, each over one public function of the
 // crates below, with that function's promise. include/guineacrumb.h declares them for C.
 ghost use mathlib.Core.Path.{_≡_};
+ghost use lib.ListN.{length};
 ghost use Rattle.vectors.specs.Root.{root};
+ghost use Rattle.guineacrumb.specs.Velocity.{requestOf, componentsOf, relaxedFrom, answer, scratchLeft, velocityLeft, placeLeft, relaxedLeft};
+use solver::checks::Request;
+use solver::neighbour::Agent;
+use solver::velocity::Reply;
+use vectors::vec3::Vec3;
+
+// The answer to lengths that do not fit.
+const BAD_LENGTHS: u32 = 255;
+
+// What stands for no plane.
+const NO_PLANE: u64 = 0xFFFF_FFFF_FFFF_FFFF;
 
 // The nearest binary32 to the root of x.
 #[no_mangle]
@@ -9,4 +21,89 @@ pub extern "C" fn guineacrumb_root(x: f32) -> f32
     ensures { λ r. ⌜ r ≡ root x ⌝ }
 {
     vectors::root::root(x)
+}
+
+// The request whose numbers stand at their places.
+fn request_of(numbers: &[f32]) -> Request
+    requires { ⌜ length (now numbers) ≡ 17 ⌝ }
+    ensures { λ r. ⌜ r ≡ requestOf (now (numbers .entry)) ⌝ }
+{
+    Request {
+        agent: Agent {
+            position: Vec3 {
+                x: numbers[0],
+                y: numbers[1],
+                z: numbers[2],
+            },
+            velocity: Vec3 {
+                x: numbers[3],
+                y: numbers[4],
+                z: numbers[5],
+            },
+            radius: numbers[6],
+            responsibility: numbers[7],
+        },
+        preferred: Vec3 {
+            x: numbers[8],
+            y: numbers[9],
+            z: numbers[10],
+        },
+        max_speed: numbers[11],
+        time_step: numbers[12],
+        horizon: numbers[13],
+        fallback: Vec3 {
+            x: numbers[14],
+            y: numbers[15],
+            z: numbers[16],
+        },
+    }
+}
+
+// The plane from which an answer is relaxed.
+fn relaxed_from(reply: Reply) -> u64
+    ensures { λ r. ⌜ r ≡ relaxedFrom reply ⌝ }
+{
+    match reply {
+        Reply::Relaxed { velocity: _, plane } => plane as u64,
+        _ => NO_PLANE,
+    }
+}
+
+fn write(vector: &mut [f32], v: Vec3)
+    requires { ⌜ length (now vector) ≡ 3 ⌝ }
+    ensures { λ _. ⌜ now (vector .exit) ≡ componentsOf v ⌝ }
+{
+    vector[0] = v.x;
+    vector[1] = v.y;
+    vector[2] = v.z;
+}
+
+// The velocity nearest to the preferred one that avoids the neighbours, with its place and the plane
+// from which it is relaxed. The request's numbers stand at document 01's places.
+#[no_mangle]
+pub extern "C" fn guineacrumb_velocity(
+    request: &[f32],
+    neighbours: &[f32],
+    scratch: &mut [f32],
+    velocity: &mut [f32],
+    place: &mut u64,
+    relaxed: &mut u64,
+) -> u32
+    ensures answer { λ r. ⌜ r ≡ answer (now (request .entry)) (now (neighbours .entry)) (now (scratch .entry)) (now (velocity .entry)) ⌝ }
+    ensures scratch { λ _. ⌜ now (scratch .exit) ≡ scratchLeft (now (request .entry)) (now (neighbours .entry)) (now (scratch .entry)) (now (velocity .entry)) ⌝ }
+    ensures velocity { λ _. ⌜ now (velocity .exit) ≡ velocityLeft (now (request .entry)) (now (neighbours .entry)) (now (scratch .entry)) (now (velocity .entry)) ⌝ }
+    ensures place { λ _. ⌜ now (place .exit) ≡ placeLeft (now (request .entry)) (now (neighbours .entry)) (now (scratch .entry)) (now (velocity .entry)) (now (place .entry)) ⌝ }
+    ensures relaxed { λ _. ⌜ now (relaxed .exit) ≡ relaxedLeft (now (request .entry)) (now (neighbours .entry)) (now (scratch .entry)) (now (velocity .entry)) (now (relaxed .entry)) ⌝ }
+{
+    if request.len() != 17 {
+        return BAD_LENGTHS;
+    }
+    if velocity.len() != 3 {
+        return BAD_LENGTHS;
+    }
+    let reply = solver::velocity::velocity(request_of(request), neighbours, scratch);
+    write(velocity, reply.velocity());
+    *place = reply.place() as u64;
+    *relaxed = relaxed_from(reply);
+    reply.number()
 }

@@ -6,7 +6,8 @@ use super::lines::Fields;
 use super::lines::Key;
 use vectors::number::from_word;
 
-// There is room for the request's 17 numbers and 64 neighbours, one more than a call takes.
+// There is room for the request's 17 numbers and 64 neighbours, one more than a call takes, and for as
+// many planes. What each field is for is said where a line sets it.
 pub struct Case {
     pub numbers: [f32; 529],
     pub length: usize,

@@ -34,7 +34,6 @@ use lines::Fields;
 use lines::Key;
 use solver::checks::Request;
 use solver::neighbour::Agent;
-use solver::velocity::Reply;
 use solver::velocity::velocity;
 use vectors::vec3::Vec3;
 use verdicts::Verdict;
@@ -45,8 +44,8 @@ struct Tally {
     malformed: u64,
 }
 
-// What the lines so far have come to. Until the first case they change `standard`, from which each case
-// starts.
+// What the lines so far have come to. A case starts from `standard`, which is what stood before the first
+// one, and is open until its answer.
 struct State {
     standard: Case,
     case: Case,
@@ -170,6 +169,7 @@ fn run(case: Case, wanted: Answer) -> bool
     requires { ⌜ Sized case ⌝ }
 {
     let size = case.scratch;
+    // 63 neighbours ask for 756 numbers.
     let mut space = [0.0f32; 800];
     run_in(&mut space[0..size], case, wanted)
 }
@@ -202,7 +202,7 @@ fn close(state: State) -> State
     state
 }
 
-// What stands before the first case is where each case starts.
+// The first case finds what stands before it.
 fn begun(state: State) -> State
     requires { ⌜ Kept state ⌝ }
     ensures { λ r. ⌜ Kept r ⌝ }

@@ -1,0 +1,2 @@
+-- What the exported functions answer, where that is not a definition of the crates below.
+pub mod Velocity

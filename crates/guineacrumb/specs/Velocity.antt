@@ -1,0 +1,80 @@
+-- The exported velocity call: the solver's, with its request and its answer as numbers in lent memory.
+use Prim.Native.Nat.{ℕ}
+use mathlib.Core.Bool.{Bool, _&&_, cond}
+use mathlib.Core.List.{List, [], _∷_}
+use lib.Dec.{eqb}
+use lib.ListN.{length, getD}
+use lib.Ieee.{Float, nan}
+use Rattle.vectors.specs.declared.vec3.Vec3.{Vec3}
+use Rattle.solver.specs.declared.checks.Request.{Request}
+use Rattle.solver.specs.declared.velocity.Reply.{Reply}
+use Rattle.solver.specs.declared.velocity.Reply.the-variants.{Free, Relaxed, BadNeighbours, ShortScratch, NotFinite, OutOfRange, BadFallback, PlaneNotFinite, NoVelocity}
+use Rattle.solver.specs.Velocity.{agentAt, velocityCall, scratchAfter, number, placeOf, velocityOf}
+
+-- ---- lengths
+
+-- the answer to a request or a velocity of another length: no number of document 01
+abbrev pub badLengths : ℕ
+badLengths = 255
+
+-- a request is the 17 numbers of places 0 to 16, and a velocity 3
+unfoldable pub fits : List Float → List Float → Bool
+fits request velocity = eqb (length request) 17 && eqb (length velocity) 3
+
+-- ---- numbers in, numbers out
+
+-- the request whose numbers stand at their places
+unfoldable pub requestOf : List Float → Request
+requestOf xs = record {
+  agent = agentAt xs;
+  preferred = record { x = getD xs 8 nan; y = getD xs 9 nan; z = getD xs 10 nan };
+  «max_speed» = getD xs 11 nan;
+  «time_step» = getD xs 12 nan;
+  horizon = getD xs 13 nan;
+  fallback = record { x = getD xs 14 nan; y = getD xs 15 nan; z = getD xs 16 nan };
+}
+
+unfoldable pub componentsOf : Vec3 → List Float
+componentsOf v = v .x ∷ v .y ∷ v .z ∷ []
+
+-- where no plane was relaxed
+abbrev pub noPlane : ℕ
+noPlane = 0xFFFF_FFFF_FFFF_FFFF
+
+-- the plane from which an answer is relaxed
+unfoldable pub relaxedFrom : Reply → ℕ
+relaxedFrom (Free v) = noPlane
+relaxedFrom (Relaxed v k) = k
+relaxedFrom BadNeighbours = noPlane
+relaxedFrom (ShortScratch needed) = noPlane
+relaxedFrom (NotFinite place) = noPlane
+relaxedFrom (OutOfRange place) = noPlane
+relaxedFrom BadFallback = noPlane
+relaxedFrom (PlaneNotFinite neighbour) = noPlane
+relaxedFrom NoVelocity = noPlane
+
+-- ---- the answer, and what is left in what was lent: as it was where the lengths do not fit
+
+-- the solver's reply to the lent numbers
+unfoldable pub replyTo : List Float → List Float → List Float → Reply
+replyTo request neighbours scratch = velocityCall (requestOf request) neighbours (length scratch)
+
+unfoldable pub answer : List Float → List Float → List Float → List Float → ℕ
+answer request neighbours scratch velocity =
+    cond (fits request velocity) (number (replyTo request neighbours scratch)) badLengths
+
+unfoldable pub scratchLeft : List Float → List Float → List Float → List Float → List Float
+scratchLeft request neighbours scratch velocity =
+    cond (fits request velocity) (scratchAfter (requestOf request) neighbours scratch) scratch
+
+unfoldable pub velocityLeft : List Float → List Float → List Float → List Float → List Float
+velocityLeft request neighbours scratch velocity =
+    cond (fits request velocity) (componentsOf (velocityOf (replyTo request neighbours scratch))) velocity
+
+unfoldable pub placeLeft : List Float → List Float → List Float → List Float → ℕ → ℕ
+placeLeft request neighbours scratch velocity place =
+    cond (fits request velocity) (placeOf (replyTo request neighbours scratch)) place
+
+unfoldable pub relaxedLeft : List Float → List Float → List Float → List Float → ℕ → ℕ
+relaxedLeft request neighbours scratch velocity relaxed =
+    cond (fits request velocity) (relaxedFrom (replyTo request neighbours scratch)) relaxed

@@ -1,0 +1,50 @@
+//! A start for a program in Rust: the worked examples of document 01 that need one neighbour.
+//! examples/run builds it and compares what it prints with examples/stdout.
+use guineacrumb::{root, scratch_length, velocity, Agent, Refusal, Request, Velocity};
+
+fn show(name: &str, request: &Request, neighbour: &Agent) {
+    let mut scratch = [0.0; scratch_length(1)];
+    match velocity(request, std::slice::from_ref(neighbour), &mut scratch) {
+        Ok(Velocity::Free([x, y, z])) => println!("{name}: velocity {x} {y} {z}, free"),
+        Ok(Velocity::Relaxed {
+            velocity: [x, y, z],
+            plane,
+        }) => println!("{name}: velocity {x} {y} {z}, relaxed from plane {plane}"),
+        Err(Refusal { number, place }) => println!("{name}: refused, {number} at {place}"),
+    }
+}
+
+fn main() {
+    println!("the root of 2: {:08x}", root(2.0).to_bits());
+
+    let still = Agent {
+        position: [0.0; 3],
+        velocity: [0.0; 3],
+        radius: 1.0,
+        responsibility: 1.0,
+    };
+    let mut request = Request {
+        agent: still,
+        preferred: [0.0; 3],
+        max_speed: 2.0,
+        time_step: 0.5,
+        horizon: 2.0,
+        fallback: [0.0, 0.0, 1.0],
+    };
+    let mut neighbour = Agent {
+        position: [4.0, 0.0, 0.0],
+        ..still
+    };
+    for preferred in [0.5, 1.0, 1.5, 4.0] {
+        request.preferred[0] = preferred;
+        show("a neighbour ahead", &request, &neighbour);
+    }
+
+    request.preferred[0] = 0.0;
+    request.max_speed = 1.0;
+    neighbour.position[0] = 0.0;
+    show("a neighbour at the same place", &request, &neighbour);
+
+    request.time_step = 0.0;
+    show("a time step of 0", &request, &neighbour);
+}

@@ -1,0 +1,148 @@
+//! Safe Rust over Guineacrumb's static library. include/guineacrumb.h of the repository says what each
+//! function promises; this crate adds types and no arithmetic.
+
+extern "C" {
+    fn guineacrumb_root(x: f32) -> f32;
+
+    fn guineacrumb_velocity(
+        request: *const f32,
+        request_length: usize,
+        neighbours: *const f32,
+        neighbours_length: usize,
+        scratch: *mut f32,
+        scratch_length: usize,
+        velocity: *mut f32,
+        velocity_length: usize,
+        place: *mut u64,
+        relaxed: *mut u64,
+    ) -> u32;
+}
+
+/// The numbers of an agent.
+const AGENT_LENGTH: usize = 8;
+
+/// What the library writes for no plane.
+const NO_PLANE: u64 = u64::MAX;
+
+/// An agent, laid out as the library reads it.
+#[repr(C)]
+#[derive(Clone, Copy, PartialEq, Debug)]
+pub struct Agent {
+    pub position: [f32; 3],
+    pub velocity: [f32; 3],
+    pub radius: f32,
+    pub responsibility: f32,
+}
+
+const _: () = assert!(size_of::<Agent>() == AGENT_LENGTH * size_of::<f32>());
+const _: () = assert!(align_of::<Agent>() == align_of::<f32>());
+
+/// What a velocity is asked for.
+#[derive(Clone, Copy, PartialEq, Debug)]
+pub struct Request {
+    pub agent: Agent,
+    pub preferred: [f32; 3],
+    pub max_speed: f32,
+    pub time_step: f32,
+    pub horizon: f32,
+    /// A direction of length 1, taken where agents coincide.
+    pub fallback: [f32; 3],
+}
+
+impl Request {
+    fn numbers(&self) -> [f32; 17] {
+        let Agent {
+            position: [x, y, z],
+            velocity: [u, v, w],
+            radius,
+            responsibility,
+        } = self.agent;
+        let [px, py, pz] = self.preferred;
+        let [fx, fy, fz] = self.fallback;
+        [
+            x,
+            y,
+            z,
+            u,
+            v,
+            w,
+            radius,
+            responsibility,
+            px,
+            py,
+            pz,
+            self.max_speed,
+            self.time_step,
+            self.horizon,
+            fx,
+            fy,
+            fz,
+        ]
+    }
+}
+
+/// A velocity that avoids the neighbours, or comes as near to it as their planes allow.
+#[derive(Clone, Copy, PartialEq, Debug)]
+pub enum Velocity {
+    Free([f32; 3]),
+    /// The planes leave none free, from this one on.
+    Relaxed {
+        velocity: [f32; 3],
+        plane: usize,
+    },
+}
+
+/// A refusal: its number from 1 to 7, and the place that it is about.
+#[derive(Clone, Copy, PartialEq, Debug)]
+pub struct Refusal {
+    pub number: u32,
+    pub place: u64,
+}
+
+/// The nearest f32 to the square root of x.
+pub fn root(x: f32) -> f32 {
+    // SAFETY: the function takes and gives a number, and touches no memory.
+    unsafe { guineacrumb_root(x) }
+}
+
+/// The scratch numbers that so many neighbours need.
+pub const fn scratch_length(neighbours: usize) -> usize {
+    12 * neighbours
+}
+
+/// The velocity nearest to the preferred one that avoids the neighbours. What scratch holds alters no
+/// answer; after one that is not refused, the planes of the neighbours stand in its first half.
+pub fn velocity(
+    request: &Request,
+    neighbours: &[Agent],
+    scratch: &mut [f32],
+) -> Result<Velocity, Refusal> {
+    let numbers = request.numbers();
+    let mut velocity = [0.0; 3];
+    let (mut place, mut relaxed) = (0, 0);
+    // SAFETY: each pointer comes with the length of what it points to, in numbers, and an Agent is 8 of
+    // them. What is lent to be written is borrowed mutably, so nothing else that is lent overlaps it. A
+    // reference is never null.
+    let number = unsafe {
+        guineacrumb_velocity(
+            numbers.as_ptr(),
+            numbers.len(),
+            neighbours.as_ptr().cast(),
+            neighbours.len() * AGENT_LENGTH,
+            scratch.as_mut_ptr(),
+            scratch.len(),
+            velocity.as_mut_ptr(),
+            velocity.len(),
+            &mut place,
+            &mut relaxed,
+        )
+    };
+    match (number, relaxed) {
+        (0, NO_PLANE) => Ok(Velocity::Free(velocity)),
+        (0, plane) => Ok(Velocity::Relaxed {
+            velocity,
+            plane: plane as usize,
+        }),
+        _ => Err(Refusal { number, place }),
+    }
+}

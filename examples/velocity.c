@@ -1,0 +1,72 @@
+/*
+ * A start for a program in C: the worked examples of document 01 that need one neighbour, through the
+ * static library. examples/run builds it and compares what it prints with examples/stdout.
+ */
+#include <inttypes.h>
+#include <stdio.h>
+#include <string.h>
+
+#include "guineacrumb.h"
+
+struct agent {
+    float position[3], velocity[3], radius, responsibility;
+};
+
+/* The numbers of a request, in the order in which the library takes them. */
+struct request {
+    struct agent agent;
+    float preferred[3], max_speed, time_step, horizon, fallback[3];
+};
+
+_Static_assert(sizeof(struct agent) == GUINEACRUMB_AGENT_LENGTH * sizeof(float), "no gaps");
+_Static_assert(sizeof(struct request) == GUINEACRUMB_REQUEST_LENGTH * sizeof(float), "no gaps");
+
+static void show(const char *name, const struct request *request, const struct agent *neighbour) {
+    float scratch[GUINEACRUMB_SCRATCH_LENGTH(1)];
+    float velocity[GUINEACRUMB_VELOCITY_LENGTH];
+    uint64_t place, relaxed;
+    uint32_t answer = guineacrumb_velocity((const float *)request, GUINEACRUMB_REQUEST_LENGTH,
+                                           (const float *)neighbour, GUINEACRUMB_AGENT_LENGTH, scratch,
+                                           GUINEACRUMB_SCRATCH_LENGTH(1), velocity,
+                                           GUINEACRUMB_VELOCITY_LENGTH, &place, &relaxed);
+    printf("%s: ", name);
+    if (answer != 0) {
+        printf("refused, %" PRIu32 " at %" PRIu64 "\n", answer, place);
+        return;
+    }
+    printf("velocity %g %g %g, ", velocity[0], velocity[1], velocity[2]);
+    if (relaxed == GUINEACRUMB_NO_PLANE)
+        printf("free\n");
+    else
+        printf("relaxed from plane %" PRIu64 "\n", relaxed);
+}
+
+int main(void) {
+    float root = guineacrumb_root(2.0f);
+    uint32_t word;
+    memcpy(&word, &root, sizeof word);
+    printf("the root of 2: %08" PRIx32 "\n", word);
+
+    struct request request = {
+        .agent = {.radius = 1, .responsibility = 1},
+        .max_speed = 2,
+        .time_step = 0.5f,
+        .horizon = 2,
+        .fallback = {0, 0, 1},
+    };
+    struct agent neighbour = {.position = {4, 0, 0}, .radius = 1, .responsibility = 1};
+    const float preferred[] = {0.5f, 1, 1.5f, 4};
+    for (int i = 0; i < 4; i++) {
+        request.preferred[0] = preferred[i];
+        show("a neighbour ahead", &request, &neighbour);
+    }
+
+    request.preferred[0] = 0;
+    request.max_speed = 1;
+    neighbour.position[0] = 0;
+    show("a neighbour at the same place", &request, &neighbour);
+
+    request.time_step = 0;
+    show("a time step of 0", &request, &neighbour);
+    return 0;
+}

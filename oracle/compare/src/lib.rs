@@ -1,0 +1,12 @@
+//! Guineacrumb's velocity call against the published one.
+//!
+//! Guineacrumb is an x86-64 archive, and this program runs on any machine: so the library is reached
+//! through a small C program (`../velocity_server.c`), emulated where it has to be, that makes the calls
+//! that it is sent (`server`). The inputs are drawn by `inputs`, from a seed and a number, so that each
+//! can be drawn again by itself. What has to come of them is worked out by `published`: from dodgy_3d,
+//! and from document 01's table where that refuses and the Rust does not.
+pub mod case;
+pub mod inputs;
+pub mod published;
+pub mod random;
+pub mod server;

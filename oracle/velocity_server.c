@@ -1,0 +1,189 @@
+/*
+ * Makes calls of guineacrumb_velocity for a program that can't link the library: it is x86-64 code, and
+ * this server runs under an emulator where the machine is another.
+ *
+ * It reads batches from standard input until that ends, and writes what comes of each to standard output
+ * once it has read the batch whole. All is words of 4 bytes, least byte first:
+ *
+ *     a batch    its kind (1 calls, 2 times), passes, the number of calls, then each call
+ *     a call     the lengths of request, neighbours, scratch and velocity, then the numbers of each
+ *     a reply    to a batch of calls, for each: the answer, whether anything was written that was not lent
+ *                to be written, place and relaxed plane (two words each), scratch, velocity
+ *     a time     to a batch of times: nanoseconds for so many passes over the calls (two words)
+ *
+ * Timed calls share one scratch, which is not cleared between them, and have their request and neighbours
+ * where they were read to.
+ *
+ * The exit status is 0 where the input ended after a batch.
+ */
+#define _DEFAULT_SOURCE
+#include <stdint.h>
+#include <stdio.h>
+#include <stdlib.h>
+#include <string.h>
+#include <time.h>
+
+#include "guineacrumb.h"
+
+enum { CALLS = 1, TIMES = 2 };
+
+/* What is lent to a call, in this order. */
+enum { REQUEST, NEIGHBOURS, SCRATCH, VELOCITY, LENT };
+
+/* Numbers on either side of each thing lent, which no call may change. */
+#define GUARDS 8
+#define GUARD 0x5A5A5A5Au
+
+/* What place and relaxed plane hold before a call. */
+#define UNWRITTEN 0xA5A5A5A5A5A5A5A5u
+
+_Static_assert(sizeof(float) == sizeof(uint32_t), "a number is a word");
+
+/* A list of words that grows. */
+struct words {
+    uint32_t *at;
+    size_t length, room;
+};
+
+/* One call: where in the batch's words each thing lent begins, and its length. */
+struct call {
+    size_t start[LENT];
+    uint32_t length[LENT];
+};
+
+static void stop(const char *why) {
+    fprintf(stderr, "velocity_server: %s\n", why);
+    exit(1);
+}
+
+/* Makes room for `more` words, and returns where they begin. */
+static uint32_t *extend(struct words *words, size_t more) {
+    if (words->room - words->length < more) {
+        words->room = 2 * words->room + more;
+        words->at = realloc(words->at, words->room * sizeof *words->at);
+        if (words->at == NULL)
+            stop("no memory");
+    }
+    words->length += more;
+    return words->at + words->length - more;
+}
+
+static void append(struct words *words, const void *from, size_t count) {
+    memcpy(extend(words, count), from, count * sizeof(uint32_t));
+}
+
+/* Whether so many words could be read: an end of input before the first is none, a later one stops. */
+static int read_words(uint32_t *to, size_t count) {
+    size_t got = fread(to, sizeof *to, count, stdin);
+    if (got != count && (got != 0 || !feof(stdin)))
+        stop("the input ends within a batch");
+    return got == count;
+}
+
+static void must_read(uint32_t *to, size_t count) {
+    if (!read_words(to, count))
+        stop("the input ends within a batch");
+}
+
+/* Reads a call, each thing lent with guards around it. */
+static struct call read_call(struct words *memory) {
+    struct call call;
+    must_read(call.length, LENT);
+    for (int i = 0; i < LENT; i++) {
+        uint32_t *to = extend(memory, call.length[i] + 2 * GUARDS);
+        call.start[i] = memory->length - call.length[i] - GUARDS;
+        for (int k = 0; k < GUARDS; k++)
+            to[k] = to[GUARDS + call.length[i] + k] = GUARD;
+        must_read(to + GUARDS, call.length[i]);
+    }
+    return call;
+}
+
+static float *lent(struct words *memory, const struct call *call, int i) {
+    return (float *)(memory->at + call->start[i]);
+}
+
+static uint32_t make(struct words *memory, const struct call *call, uint64_t *place, uint64_t *relaxed) {
+    return guineacrumb_velocity(lent(memory, call, REQUEST), call->length[REQUEST],
+                                lent(memory, call, NEIGHBOURS), call->length[NEIGHBOURS],
+                                lent(memory, call, SCRATCH), call->length[SCRATCH],
+                                lent(memory, call, VELOCITY), call->length[VELOCITY], place, relaxed);
+}
+
+/* Whether the words that a call leaves differ from those before it where nothing was lent to be written. */
+static uint32_t strayed(const struct words *memory, const struct words *before, const struct call *call) {
+    const uint32_t *now = memory->at, *then = before->at;
+    size_t first = call->start[REQUEST] - GUARDS;
+    size_t scratch = call->start[SCRATCH], scratch_end = scratch + call->length[SCRATCH];
+    size_t velocity = call->start[VELOCITY], velocity_end = velocity + call->length[VELOCITY];
+    return memcmp(now + first, then + first, (scratch - first) * sizeof *now) != 0 ||
+           memcmp(now + scratch_end, then + scratch_end, (velocity - scratch_end) * sizeof *now) != 0 ||
+           memcmp(now + velocity_end, then + velocity_end, GUARDS * sizeof *now) != 0;
+}
+
+static void reply(struct words *memory, const struct words *before, const struct call *call,
+                  struct words *replies) {
+    uint64_t written[] = {UNWRITTEN, UNWRITTEN};
+    uint32_t first[2];
+    first[0] = make(memory, call, &written[0], &written[1]);
+    first[1] = strayed(memory, before, call);
+    append(replies, first, 2);
+    append(replies, written, 4);
+    append(replies, memory->at + call->start[SCRATCH], call->length[SCRATCH]);
+    append(replies, memory->at + call->start[VELOCITY], call->length[VELOCITY]);
+}
+
+static uint64_t now(void) {
+    struct timespec t;
+    clock_gettime(CLOCK_MONOTONIC, &t);
+    return (uint64_t)t.tv_sec * 1000000000u + (uint64_t)t.tv_nsec;
+}
+
+/* What the timed calls gave: a store that the compiler may not leave out. */
+static volatile uint32_t sink;
+
+static uint64_t time_of(struct words *memory, struct call *calls, size_t count, uint32_t passes) {
+    uint64_t place, relaxed;
+    uint32_t mixed = 0;
+    for (size_t i = 1; i < count; i++) {
+        if (calls[i].length[SCRATCH] > calls[0].length[SCRATCH])
+            stop("the first call of a batch that is timed has to have the longest scratch");
+        calls[i].start[SCRATCH] = calls[0].start[SCRATCH];
+    }
+    uint64_t start = now();
+    for (uint32_t pass = 0; pass < passes; pass++)
+        for (size_t i = 0; i < count; i++)
+            mixed ^= make(memory, &calls[i], &place, &relaxed);
+    uint64_t end = now();
+    sink = mixed;
+    return end - start;
+}
+
+int main(void) {
+    struct words memory = {0}, before = {0}, replies = {0};
+    struct call *calls = NULL;
+    uint32_t head[3];
+    while (read_words(head, 3)) {
+        uint32_t kind = head[0], passes = head[1], count = head[2];
+        memory.length = before.length = replies.length = 0;
+        calls = realloc(calls, (count + 1) * sizeof *calls);
+        if (calls == NULL)
+            stop("no memory");
+        for (uint32_t i = 0; i < count; i++)
+            calls[i] = read_call(&memory);
+        append(&before, memory.at, memory.length);
+        if (kind == CALLS) {
+            for (uint32_t i = 0; i < count; i++)
+                reply(&memory, &before, &calls[i], &replies);
+        } else if (kind == TIMES) {
+            uint64_t time = time_of(&memory, calls, count, passes);
+            append(&replies, &time, 2);
+        } else {
+            stop("an unknown kind of batch");
+        }
+        fwrite(replies.at, sizeof *replies.at, replies.length, stdout);
+        if (fflush(stdout) != 0)
+            stop("the output could not be written");
+    }
+    return 0;
+}
