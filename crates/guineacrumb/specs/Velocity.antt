@@ -1,15 +1,15 @@
--- The exported velocity call: the solver's, with its request and its answer as numbers in lent memory.
+-- The exported velocity call: `velocity` of avoidance, with its request and its answer as numbers in lent memory.
 use Prim.Native.Nat.{ℕ}
 use mathlib.Core.Bool.{Bool, _&&_, cond}
 use mathlib.Core.List.{List, [], _∷_}
 use lib.Dec.{eqb}
-use lib.ListN.{length, getD}
-use lib.Ieee.{Float, nan}
+use lib.ListN.{length}
+use lib.Ieee.{Float}
 use Rattle.vectors.specs.declared.vec3.Vec3.{Vec3}
-use Rattle.solver.specs.declared.checks.Request.{Request}
-use Rattle.solver.specs.declared.velocity.Reply.{Reply}
-use Rattle.solver.specs.declared.velocity.Reply.the-variants.{Free, Relaxed, BadNeighbours, ShortScratch, NotFinite, OutOfRange, BadFallback, PlaneNotFinite, NoVelocity}
-use Rattle.solver.specs.Velocity.{agentAt, velocityCall, scratchAfter, number, placeOf, velocityOf}
+use Rattle.avoidance.specs.declared.velocity.Reply.{Reply}
+use Rattle.avoidance.specs.declared.velocity.Reply.the-variants.{Free, Relaxed, BadNeighbours, ShortScratch, NotFinite, OutOfRange, BadFallback, PlaneNotFinite, NoVelocity}
+use Rattle.avoidance.specs.Checks.{requestAt}
+use Rattle.avoidance.specs.Velocity.{velocityCall, scratchAfter, number, placeOf, velocityOf}
 
 -- ---- lengths
 
@@ -21,18 +21,7 @@ badLengths = 255
 unfoldable pub fits : List Float → List Float → Bool
 fits request velocity = eqb (length request) 17 && eqb (length velocity) 3
 
--- ---- numbers in, numbers out
-
--- the request whose numbers stand at their places
-unfoldable pub requestOf : List Float → Request
-requestOf xs = record {
-  agent = agentAt xs;
-  preferred = record { x = getD xs 8 nan; y = getD xs 9 nan; z = getD xs 10 nan };
-  «max_speed» = getD xs 11 nan;
-  «time_step» = getD xs 12 nan;
-  horizon = getD xs 13 nan;
-  fallback = record { x = getD xs 14 nan; y = getD xs 15 nan; z = getD xs 16 nan };
-}
+-- ---- numbers out
 
 unfoldable pub componentsOf : Vec3 → List Float
 componentsOf v = v .x ∷ v .y ∷ v .z ∷ []
@@ -55,9 +44,9 @@ relaxedFrom NoVelocity = noPlane
 
 -- ---- the answer, and what is left in what was lent: as it was where the lengths do not fit
 
--- the solver's reply to the lent numbers
+-- the reply to the lent numbers
 unfoldable pub replyTo : List Float → List Float → List Float → Reply
-replyTo request neighbours scratch = velocityCall (requestOf request) neighbours (length scratch)
+replyTo request neighbours scratch = velocityCall (requestAt request) neighbours (length scratch)
 
 unfoldable pub answer : List Float → List Float → List Float → List Float → ℕ
 answer request neighbours scratch velocity =
@@ -65,7 +54,7 @@ answer request neighbours scratch velocity =
 
 unfoldable pub scratchLeft : List Float → List Float → List Float → List Float → List Float
 scratchLeft request neighbours scratch velocity =
-    cond (fits request velocity) (scratchAfter (requestOf request) neighbours scratch) scratch
+    cond (fits request velocity) (scratchAfter (requestAt request) neighbours scratch) scratch
 
 unfoldable pub velocityLeft : List Float → List Float → List Float → List Float → List Float
 velocityLeft request neighbours scratch velocity =

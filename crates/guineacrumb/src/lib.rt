@@ -3,10 +3,10 @@
 ghost use mathlib.Core.Path.{_≡_};
 ghost use lib.ListN.{length};
 ghost use Rattle.vectors.specs.Root.{root};
-ghost use Rattle.guineacrumb.specs.Velocity.{requestOf, componentsOf, relaxedFrom, answer, scratchLeft, velocityLeft, placeLeft, relaxedLeft};
-use solver::checks::Request;
-use solver::neighbour::Agent;
-use solver::velocity::Reply;
+ghost use Rattle.guineacrumb.specs.Velocity.{componentsOf, relaxedFrom, answer, scratchLeft, velocityLeft, placeLeft, relaxedLeft};
+use avoidance::checks::ReadRequest;
+use avoidance::checks::Request;
+use avoidance::velocity::Reply;
 use vectors::vec3::Vec3;
 
 // The answer to lengths that do not fit.
@@ -21,42 +21,6 @@ pub extern "C" fn guineacrumb_root(x: f32) -> f32
     ensures { λ r. ⌜ r ≡ root x ⌝ }
 {
     vectors::root::root(x)
-}
-
-// The request whose numbers stand at their places.
-fn request_of(numbers: &[f32]) -> Request
-    requires { ⌜ length (now numbers) ≡ 17 ⌝ }
-    ensures { λ r. ⌜ r ≡ requestOf (now (numbers .entry)) ⌝ }
-{
-    Request {
-        agent: Agent {
-            position: Vec3 {
-                x: numbers[0],
-                y: numbers[1],
-                z: numbers[2],
-            },
-            velocity: Vec3 {
-                x: numbers[3],
-                y: numbers[4],
-                z: numbers[5],
-            },
-            radius: numbers[6],
-            responsibility: numbers[7],
-        },
-        preferred: Vec3 {
-            x: numbers[8],
-            y: numbers[9],
-            z: numbers[10],
-        },
-        max_speed: numbers[11],
-        time_step: numbers[12],
-        horizon: numbers[13],
-        fallback: Vec3 {
-            x: numbers[14],
-            y: numbers[15],
-            z: numbers[16],
-        },
-    }
 }
 
 // The plane from which an answer is relaxed.
@@ -95,13 +59,13 @@ pub extern "C" fn guineacrumb_velocity(
     ensures place { λ _. ⌜ now (place .exit) ≡ placeLeft (now (request .entry)) (now (neighbours .entry)) (now (scratch .entry)) (now (velocity .entry)) (now (place .entry)) ⌝ }
     ensures relaxed { λ _. ⌜ now (relaxed .exit) ≡ relaxedLeft (now (request .entry)) (now (neighbours .entry)) (now (scratch .entry)) (now (velocity .entry)) (now (relaxed .entry)) ⌝ }
 {
-    if request.len() != 17 {
-        return BAD_LENGTHS;
-    }
     if velocity.len() != 3 {
         return BAD_LENGTHS;
     }
-    let reply = solver::velocity::velocity(request_of(request), neighbours, scratch);
+    let ReadRequest::Is(asked) = Request::read(request) else {
+        return BAD_LENGTHS;
+    };
+    let reply = avoidance::velocity::velocity(asked, neighbours, scratch);
     write(velocity, reply.velocity());
     *place = reply.place() as u64;
     *relaxed = relaxed_from(reply);

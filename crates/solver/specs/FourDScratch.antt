@@ -2,19 +2,11 @@
 use Prim.Native.Nat.{ℕ, _+_, _*_, _≤_, _<_}
 use mathlib.Core.Path.{_≡_}
 use mathlib.Core.List.{List, [], _∷_, _++_}
-use lib.ListN.{length, take, drop, set}
+use lib.ListN.{length, take, drop}
 use lib.Ieee.{Float}
 use Rattle.solver.specs.declared.plane.Plane.{Plane}
 use Rattle.solver.specs.Plane.{planeAt, planesOf}
 use Rattle.solver.specs.FourD.{turnedAll, kept, turnBy}
-
--- a plane as six numbers, and stored so
-unfoldable pub numbersOfPlane : Plane → List Float
-numbersOfPlane p = p .point .x ∷ p .point .y ∷ p .point .z ∷ p .normal .x ∷ p .normal .y ∷ p .normal .z ∷ []
-
-unfoldable pub written : List Float → ℕ → Plane → List Float
-written xs at plane =
-    set (set (set (set (set (set xs at (plane .point .x)) (at + 1) (plane .point .y)) (at + 2) (plane .point .z)) (at + 3) (plane .normal .x)) (at + 4) (plane .normal .y)) (at + 5) (plane .normal .z)
 
 -- there is room for count planes twice, and one of them is at the index
 abbrev pub Within : ℕ → ℕ → List Float → Type 0

@@ -5,9 +5,4 @@ pub mod AlongPlane
 pub mod ThreeD
 pub mod FourD
 pub mod FourDScratch
-pub mod Neighbour
-pub mod Checks
 pub mod Solve
-pub mod Velocity
-pub mod VelocityScratch
-pub mod Refusals

@@ -1,7 +1,9 @@
 -- Planes and lines: the Rust's `Plane`, `Line` and `OptimalValue`.
-use Prim.Native.Nat.{ℕ, zero, suc, _/_}
+use Prim.Native.Nat.{ℕ, zero, suc, _+_, _*_, _/_}
+use mathlib.Core.Bool.{cond}
 use mathlib.Core.List.{List, [], _∷_, _++_}
-use lib.ListN.{length, getD, drop}
+use lib.Dec.{ltb}
+use lib.ListN.{length, getD, take, drop}
 use lib.Ieee.{Float, nan}
 use Rattle.vectors.specs.declared.vec3.Vec3.{Vec3}
 use Rattle.vectors.specs.Vec3.{_-ᵥ_, dot}
@@ -19,6 +21,15 @@ planeAt xs = record {
   point = record { x = getD xs 0 nan; y = getD xs 1 nan; z = getD xs 2 nan };
   normal = record { x = getD xs 3 nan; y = getD xs 4 nan; z = getD xs 5 nan };
 }
+
+-- its six numbers
+unfoldable pub numbersOfPlane : Plane → List Float
+numbersOfPlane p = p .point .x ∷ p .point .y ∷ p .point .z ∷ p .normal .x ∷ p .normal .y ∷ p .normal .z ∷ []
+
+-- a list of numbers with a plane written at an index: as it was, where it has no room for one there
+unfoldable pub withPlane : List Float → ℕ → Plane → List Float
+withPlane xs index plane =
+    cond (ltb index (length xs / 6)) (take (6 * index) xs ++ (numbersOfPlane plane ++ drop (6 * index + 6) xs)) xs
 
 -- the first n planes of a list of numbers
 unfoldable pub planesOf : ℕ → List Float → List Plane

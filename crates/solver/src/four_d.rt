@@ -4,15 +4,15 @@
 // lent scratch, whose first half holds the planes, and are solved there.
 ghost use mathlib.Core.Path.{_≡_};
 ghost use Prim.Native.Nat.{_+_, _-_, _*_, _/_, _≤_, _<_};
-ghost use mathlib.Core.List.{_++_};
-ghost use lib.ListN.{length, take, drop, replicate};
-ghost use Rattle.vectors.specs.Number.{zero};
+ghost use lib.ListN.{length, drop};
 ghost use Rattle.solver.specs.Plane.{planeAt, planesOf};
 ghost use Rattle.solver.specs.FourD.{turnedPlane, turnBy, relaxBy, fourD, halfCleared};
-ghost use Rattle.solver.specs.FourDScratch.{written, Within, Keeps, TurnedAll, TurnedOne};
+ghost use Rattle.solver.specs.FourDScratch.{Within, Keeps, TurnedAll, TurnedOne};
 use super::plane::Optimum;
 use super::plane::Plane;
+use super::plane::clear;
 use super::plane::plane_at;
+use super::plane::write_plane;
 use super::three_d::Failure;
 use super::three_d::Outcome;
 use super::three_d::three_d;
@@ -61,19 +61,6 @@ fn turn_by(constraint: Plane, previous: Plane) -> Turned
     }
 }
 
-// Writes a plane as six numbers.
-pub(crate) fn write_plane(numbers: &mut [f32], at: usize, plane: Plane)
-    requires { ⌜ at + 6 ≤ length (now numbers) ⌝ }
-    ensures { λ _. ⌜ now (numbers .exit) ≡ written (now (numbers .entry)) at plane ⌝ }
-{
-    numbers[at] = plane.point.x;
-    numbers[at + 1] = plane.point.y;
-    numbers[at + 2] = plane.point.z;
-    numbers[at + 3] = plane.normal.x;
-    numbers[at + 4] = plane.normal.y;
-    numbers[at + 5] = plane.normal.z;
-}
-
 // Turns the plane at `index`, and appends it to the `kept` ones in the second half, unless it is left
 // out. Answers how many are there now.
 fn turn_one(
@@ -89,7 +76,7 @@ fn turn_one(
     let previous = plane_at(scratch, index);
     match turn_by(constraint, previous) {
         Turned::Kept(plane) => {
-            write_plane(scratch, 6 * count + 6 * kept, plane);
+            write_plane(scratch, count + kept, plane);
             kept + 1
         }
         Turned::LeftOut => kept,
@@ -137,17 +124,6 @@ fn relax_by(scratch: &mut [f32], count: usize, radius: f32, index: usize, state:
         },
         Outcome::Infeasible(_) => state,
         Outcome::BadClamp(_) => state,
-    }
-}
-
-// Writes +0 everywhere.
-pub(crate) fn clear(numbers: &mut [f32])
-    ensures { λ _. ⌜ now (numbers .exit) ≡ replicate (length (now (numbers .entry))) zero ⌝ }
-{
-    let mut at = 0;
-    while at < numbers.len() {
-        numbers[at] = 0.0;
-        at += 1;
     }
 }
 

@@ -3,10 +3,7 @@
 // `specs/`, which stands there under the same name.
 pub mod along_line;
 pub mod along_plane;
-pub mod checks;
 pub mod four_d;
-pub mod neighbour;
 pub mod plane;
 pub mod solve;
 pub mod three_d;
-pub mod velocity;

@@ -2,8 +2,9 @@
 // planes lent as numbers. The definitions are in `specs/Plane.antt`.
 ghost use mathlib.Core.Path.{_≡_};
 ghost use Prim.Native.Nat.{_*_, _/_, _<_};
-ghost use lib.ListN.{length, drop};
-ghost use Rattle.solver.specs.Plane.{signedDistance, planeAt};
+ghost use lib.ListN.{length, drop, replicate};
+ghost use Rattle.vectors.specs.Number.{zero};
+ghost use Rattle.solver.specs.Plane.{signedDistance, planeAt, withPlane};
 use vectors::vec3::Vec3;
 
 // A half-space: the values on the side of `point` that `normal` shows.
@@ -57,5 +58,32 @@ pub(crate) fn plane_at(planes: &[f32], index: usize) -> Plane
             y: planes[at + 4],
             z: planes[at + 5],
         },
+    }
+}
+
+// Writes a plane as its six numbers, at `index` among planes lent so. Where there is no room for it,
+// nothing is written.
+pub fn write_plane(planes: &mut [f32], index: usize, plane: Plane)
+    ensures { λ _. ⌜ now (planes .exit) ≡ withPlane (now (planes .entry)) index plane ⌝ }
+{
+    if index < planes.len() / 6 {
+        let at = 6 * index;
+        planes[at] = plane.point.x;
+        planes[at + 1] = plane.point.y;
+        planes[at + 2] = plane.point.z;
+        planes[at + 3] = plane.normal.x;
+        planes[at + 4] = plane.normal.y;
+        planes[at + 5] = plane.normal.z;
+    }
+}
+
+// Writes +0 everywhere.
+pub fn clear(numbers: &mut [f32])
+    ensures { λ _. ⌜ now (numbers .exit) ≡ replicate (length (now (numbers .entry))) zero ⌝ }
+{
+    let mut at = 0;
+    while at < numbers.len() {
+        numbers[at] = 0.0;
+        at += 1;
     }
 }

@@ -3,7 +3,7 @@ ghost use mathlib.Core.Path.{_≡_};
 ghost use mathlib.Core.Bool.{true};
 use super::lines::Fields;
 use super::lines::Key;
-use solver::velocity::Reply;
+use avoidance::velocity::Reply;
 use vectors::number::to_word;
 
 // Of a refusal the velocity is three +0s, and of an answer that is not relaxed the plane is 0.
@@ -22,7 +22,7 @@ pub enum Wanted {
     Malformed,
 }
 
-fn refusal(number: usize, place: usize) -> Answer {
+pub(crate) fn refusal(number: usize, place: usize) -> Answer {
     Answer {
         number,
         place,

@@ -28,14 +28,13 @@ mod verdicts;
 
 use answers::Answer;
 use answers::Wanted;
+use avoidance::checks::ReadRequest;
+use avoidance::checks::Request;
+use avoidance::velocity::velocity;
 use cases::Case;
 use libc::STDOUT_FILENO;
 use lines::Fields;
 use lines::Key;
-use solver::checks::Request;
-use solver::neighbour::Agent;
-use solver::velocity::velocity;
-use vectors::vec3::Vec3;
 use verdicts::Verdict;
 
 struct Tally {
@@ -88,44 +87,12 @@ fn one_more(count: u64) -> u64 {
     if count < u64::MAX { count + 1 } else { count }
 }
 
-fn request_of(numbers: &[f32]) -> Request
-    requires { ⌜ 17 ≤ length (now numbers) ⌝ }
-{
-    Request {
-        agent: Agent {
-            position: Vec3 {
-                x: numbers[0],
-                y: numbers[1],
-                z: numbers[2],
-            },
-            velocity: Vec3 {
-                x: numbers[3],
-                y: numbers[4],
-                z: numbers[5],
-            },
-            radius: numbers[6],
-            responsibility: numbers[7],
-        },
-        preferred: Vec3 {
-            x: numbers[8],
-            y: numbers[9],
-            z: numbers[10],
-        },
-        max_speed: numbers[11],
-        time_step: numbers[12],
-        horizon: numbers[13],
-        fallback: Vec3 {
-            x: numbers[14],
-            y: numbers[15],
-            z: numbers[16],
-        },
-    }
-}
-
 fn call(numbers: &[f32], scratch: &mut [f32]) -> Answer
     requires { ⌜ 17 ≤ length (now numbers) ⌝ }
 {
-    let request = request_of(numbers);
+    let ReadRequest::Is(request) = Request::read(&numbers[0..17]) else {
+        return answers::refusal(255, 0);
+    };
     answers::answer_of(velocity(request, &numbers[17..], scratch))
 }
 

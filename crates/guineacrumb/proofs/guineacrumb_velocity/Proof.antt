@@ -1,43 +1,70 @@
-use mathlib.Core.Path.{_≡_}
-use mathlib.Core.Bool.{true, false}
+use mathlib.Core.Path.{_≡_, refl, sym, _∙_}
+use mathlib.Core.Bool.{Bool, true, false, _&&_, cond}
 use mathlib.Core.List.{List}
+use Prim.Native.Nat.{ℕ}
+use native.Mathlib.Omega.{arith}
+use lib.Dec.{eqb}
 use lib.ListN.{length}
 use lib.Ieee.{Float}
 use borrow.Author.Needs.{needs}
 use borrow.Author.Tests.{eq-eqb, ne-eqb}
 use denote.Ref.{now}
+use Rattle.avoidance.specs.declared.checks.Request.{Request}
+use Rattle.avoidance.specs.declared.checks.ReadRequest.the-variants.{Is, BadLength}
+use Rattle.avoidance.specs.Checks.{requestAt, readRequest}
 use Rattle.guineacrumb.specs.Velocity.{fits, replyTo, answer, scratchLeft, velocityLeft, placeLeft, relaxedLeft}
 use Rattle.guineacrumb.proofs.guineacrumb_velocity.Statement.{statement}
 use Rattle.guineacrumb.proofs.guineacrumb_velocity.Tie as tie
 
-bad-request : (request velocity : List Float) → (length request ≡ 17 → ⊥) → fits request velocity ≡ false
-unfolding fits
-bad-request request velocity other = simp (ne-eqb (length request) 17 other)
+-- the lengths fit exactly where the velocity's does and a request is read
+module _ (velocity request : List Float) where
+  bad-velocity : (length velocity ≡ 3 → ⊥) → fits request velocity ≡ false
+  unfolding fits
+  bad-velocity other = go (eqb (length request) 17)
+    where
+      go : (b : Bool) → b && eqb (length velocity) 3 ≡ false
+      go true = ne-eqb (length velocity) 3 other
+      go false = refl
 
-bad-velocity : (request velocity : List Float) → length request ≡ 17 → (length velocity ≡ 3 → ⊥) → fits request velocity ≡ false
-unfolding fits
-bad-velocity request velocity right other = simp (eq-eqb (length request) 17 right, ne-eqb (length velocity) 3 other)
+  bad-request : readRequest request ≡ BadLength → fits request velocity ≡ false
+  unfolding fits readRequest
+  bad-request = go (eqb (length request) 17)
+    where
+      go : (b : Bool) → cond b (Is (requestAt request)) BadLength ≡ BadLength → b && eqb (length velocity) 3 ≡ false
+      go true e = let z : _≡_ {A = ℕ} 0 1 = cc in absurd (omega arith)
+      go false e = refl
 
-good : (request velocity : List Float) → length request ≡ 17 → length velocity ≡ 3 → fits request velocity ≡ true
-unfolding fits
-good request velocity right three = simp (eq-eqb (length request) 17 right, eq-eqb (length velocity) 3 three)
+  good : (asked : Request) → length velocity ≡ 3 → readRequest request ≡ Is asked → (fits request velocity ≡ true) × (asked ≡ requestAt request)
+  unfolding fits readRequest
+  good asked three = go (eqb (length request) 17)
+    where
+      go : (b : Bool) → cond b (Is (requestAt request)) BadLength ≡ Is asked → (b && eqb (length velocity) 3 ≡ true) × (asked ≡ requestAt request)
+      go true e = (eq-eqb (length velocity) 3 three, cc)
+      go false e = let z : _≡_ {A = ℕ} 0 1 = cc in absurd (omega arith)
 
 returns : tie.Need-returns
 unfolding answer scratchLeft velocityLeft placeLeft relaxedLeft
 returns c =
     let start = c .before .before .before .before .before in
-    let unfit = bad-request (now (start .args .request)) (now (start .args .velocity)) (c .if1 .taken) in
+    let unfit = bad-velocity (now (start .args .velocity)) (now (start .args .request)) (c .if1 .taken) in
     (simp unfit, (simp unfit, (simp unfit, (simp unfit, simp unfit))))
+
+read-requires : tie.Need-read-requires
+read-requires c κs = search needs
+
+enum-known-asked : tie.Need-enum-known-asked
+enum-known-asked c = search needs
+
+enum-told : tie.Need-enum-told
+enum-told c = search needs
 
 returns-2 : tie.Need-returns-2
 unfolding answer scratchLeft velocityLeft placeLeft relaxedLeft
 returns-2 c =
-    let start = c .before .before .before .before .before .before in
-    let unfit = bad-velocity (now (start .args .request)) (now (start .args .velocity)) (c .before .if1 .left) (c .if2 .taken) in
+    let read = c .before .before in
+    let start = read .before .before .before .before .before .before in
+    let unfit = bad-request (now (start .args .velocity)) (now (start .args .request)) (sym (read .read .ensures) ∙ c .enum-told .given .1) in
     (simp unfit, (simp unfit, (simp unfit, (simp unfit, simp unfit))))
-
-request-of-requires : tie.Need-request-of-requires
-request-of-requires c κs = search needs
 
 velocity-requires : tie.Need-velocity-requires
 velocity-requires c κs = search needs
@@ -67,23 +94,27 @@ returns-3 : tie.Need-returns-3
 unfolding answer scratchLeft velocityLeft placeLeft relaxedLeft replyTo
 returns-3 c =
     let called = c .before .before .before .before .before .before .before .before .before .before in
-    let tested = called .before .before .before in
-    let start = tested .before .before .before .before .before .before in
-    let fit = good (now (start .args .request)) (now (start .args .velocity)) (tested .before .if1 .left) (tested .if2 .left) in
-    let request = called .before .before .request-of .ensures in
+    let given = called .before .before .before in
+    let read = given .before .before in
+    let start = read .before .before .before .before .before .before in
+    let fit = good (now (start .args .velocity)) (now (start .args .request)) _ (read .before .if1 .left) (sym (read .read .ensures) ∙ given .asked .given .1) in
+    let fits = fit .0 in
+    let request = fit .1 in
     let reply = called .velocity .ensures .0 in
     let scratch = called .velocity .ensures .1 in
     let vector = c .before .before .before .before .before .before .velocity2 .ensures in
     let written = c .before .before .before .before .before .write .ensures in
-    (simp (fit, ← request, ← reply, c .number .ensures), (simp (fit, ← request, scratch), (simp (fit, ← request, ← reply, ← vector, written), (simp (fit, ← request, ← reply, c .before .before .place .ensures), simp (fit, ← request, ← reply, c .before .relaxed-from .ensures)))))
+    (simp (fits, ← request, ← reply, c .number .ensures), (simp (fits, ← request, scratch), (simp (fits, ← request, ← reply, ← vector, written), (simp (fits, ← request, ← reply, c .before .before .place .ensures), simp (fits, ← request, ← reply, c .before .relaxed-from .ensures)))))
 
 pub guineacrumb-velocity-spec : {M : Type 1} → statement M
 guineacrumb-velocity-spec =
     tie.close
     (tie.spec
     returns
+    read-requires
+    enum-known-asked
+    enum-told
     returns-2
-    request-of-requires
     velocity-requires
     velocity-requires-2
     write-requires

@@ -4,9 +4,9 @@ use mathlib.Core.List.{List, [], _∷_}
 use denote.Enum.Declared
 use types.Run.{OneOf, miss}
 use borrow.Author.Needs.{needs}
-use Rattle.solver.specs.declared.velocity.Reply.{Reply}
-use Rattle.solver.specs.declared.velocity.Reply.the-variants.{Free, Relaxed, BadNeighbours, ShortScratch, NotFinite, OutOfRange, BadFallback, PlaneNotFinite, NoVelocity}
-use Rattle.solver.proofs.velocity.Reply as Reply'
+use Rattle.avoidance.specs.declared.velocity.Reply.{Reply}
+use Rattle.avoidance.specs.declared.velocity.Reply.the-variants.{Free, Relaxed, BadNeighbours, ShortScratch, NotFinite, OutOfRange, BadFallback, PlaneNotFinite, NoVelocity}
+use Rattle.avoidance.proofs.velocity.Reply as Reply'
 use Rattle.guineacrumb.specs.Velocity.{noPlane, relaxedFrom}
 use Rattle.guineacrumb.proofs.relaxed_from.Statement.{statement}
 use Rattle.guineacrumb.proofs.relaxed_from.Tie as tie

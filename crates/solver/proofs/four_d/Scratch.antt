@@ -1,12 +1,11 @@
--- Planes written to lent numbers, and read back.
+-- The scratch of the 4D program: the planes in its first half, those turned in its second.
 use mathlib.Core.Path.{_≡_, refl, sym, ap, _∙_, subst}
 use mathlib.Core.List.{List, [], _∷_, _++_, append-assoc}
 use Prim.Native.Nat.{ℕ, zero, suc, _+_, _-_, _*_, _/_, _≤_, _<_}
-use native.Mathlib.Nat.{le-refl, le-of-suc-le-suc, not-suc-le-zero}
-use native.Mathlib.Numerals.{add-one}
+use native.Mathlib.Nat.{le-refl}
 use native.Mathlib.Omega.{arith}
-use lib.ListN.{length, take, drop, set, replicate, length-set, length-drop, length-append, length-replicate}
-use lib.Seq.{take-set-le, drop-set-lt, drop-drop, take-take, drop-at, length-take-le, sets, sets-eq}
+use lib.ListN.{length, take, drop, replicate, length-drop, length-append, length-replicate}
+use lib.Seq.{drop-drop, take-take, length-take-le}
 use lib.Ieee.{Float}
 use Rattle.vectors.specs.Number.{zero as zero32}
 use Rattle.solver.specs.declared.plane.Plane.{Plane}
@@ -14,56 +13,9 @@ use Rattle.solver.specs.declared.four_d.Turned.{Turned}
 use Rattle.solver.specs.declared.four_d.Turned.the-variants.{Kept, LeftOut}
 use Rattle.solver.specs.Plane.{planeAt, planesOf, planesIn}
 use Rattle.solver.specs.FourD.{kept, turnBy, turnedAll, halfCleared}
-use Rattle.solver.specs.FourDScratch.{numbersOfPlane, written, Keeps, TurnedOne}
+use Rattle.solver.specs.FourDScratch.{Keeps, TurnedOne}
 use Rattle.solver.proofs.Planes.{rest, rest-step, passed-step, planes-take, planes-lent, planeAt-take, drop-take}
-
--- ---- a plane written
-
-pub written-length : (xs : List Float) (at : ℕ) (p : Plane) → length (written xs at p) ≡ length xs
-unfolding written
-written-length xs at p = simp length-set
-
-pub written-before : (n : ℕ) (xs : List Float) (at : ℕ) (p : Plane) → n ≤ at → take n (written xs at p) ≡ take n xs
-unfolding written
-written-before n xs at p h =
-    let h1 : n ≤ at + 1 = omega arith in
-    let h2 : n ≤ at + 2 = omega arith in
-    let h3 : n ≤ at + 3 = omega arith in
-    let h4 : n ≤ at + 4 = omega arith in
-    let h5 : n ≤ at + 5 = omega arith in
-    simp take-set-le
-
-pub written-after : (n : ℕ) (xs : List Float) (at : ℕ) (p : Plane) → at + 6 ≤ n → drop n (written xs at p) ≡ drop n xs
-unfolding written
-written-after n xs at p h =
-    let h0 : at < n = omega arith in
-    let h1 : at + 1 < n = omega arith in
-    let h2 : at + 2 < n = omega arith in
-    let h3 : at + 3 < n = omega arith in
-    let h4 : at + 4 < n = omega arith in
-    let h5 : at + 5 < n = omega arith in
-    simp drop-set-lt
-
--- six stores in a row
-written-is : (xs : List Float) (at : ℕ) (p : Plane) → written xs at p ≡ sets xs at (numbersOfPlane p)
-unfolding written numbersOfPlane
-written-is xs at p =
-    let e2 : at + 2 ≡ suc (suc at) = omega arith in
-    let e3 : at + 3 ≡ suc (suc (suc at)) = omega arith in
-    let e4 : at + 4 ≡ suc (suc (suc (suc at))) = omega arith in
-    let e5 : at + 5 ≡ suc (suc (suc (suc (suc at)))) = omega arith in
-    rw (add-one at, e2, e3, e4, e5)
-
--- what stood before, the plane's numbers, and what stood after
-pub written-split : (xs : List Float) (at : ℕ) (p : Plane) → at + 6 ≤ length xs → written xs at p ≡ take at xs ++ (numbersOfPlane p ++ drop (at + 6) xs)
-unfolding numbersOfPlane
-written-split xs at p h = written-is xs at p ∙ sets-eq (numbersOfPlane p) xs at h ∙ append-assoc (take at xs) (numbersOfPlane p) (drop (at + 6) xs)
-
-pub written-read : (xs : List Float) (at : ℕ) (p : Plane) → at + 6 ≤ length xs → planeAt (drop at (written xs at p)) ≡ p
-unfolding planeAt numbersOfPlane
-written-read xs at p h =
-    ap (λ (ys : List Float). planeAt (drop at ys)) (written-split xs at p h)
-    ∙ ap planeAt (drop-at (take at xs) (numbersOfPlane p ++ drop (at + 6) xs) at (length-take-le at xs (omega arith)))
+use Rattle.solver.proofs.Written.{written, written-before, written-read}
 
 -- ---- planes in equal beginnings
 
@@ -118,16 +70,6 @@ pub part-lent : (base r : ℕ) (ys : List Float) → base + 6 * r ≤ length ys 
 part-lent base r ys h =
     let size : base + 6 * r - base ≡ 6 * r = omega arith in
     ap (λ (k : ℕ). planesIn (take k (drop base ys))) size ∙ planes-lent r (drop base ys) (simp length-drop (omega arith))
-
--- ---- a list filled from the front
-
-fill-suc : (n : ℕ) (v : Float) (d : List Float) → n < length d → set (replicate n v ++ drop n d) n v ≡ replicate (suc n) v ++ drop (suc n) d
-fill-suc n v [] l = absurd (not-suc-le-zero l)
-fill-suc zero v (x ∷ d) l = refl
-fill-suc (suc n) v (x ∷ d) l = ap (λ (t : List Float). v ∷ t) (fill-suc n v d (le-of-suc-le-suc l))
-
-pub fill-more : (n : ℕ) (v : Float) (d : List Float) → n < length d → set (replicate n v ++ drop n d) n v ≡ replicate (n + 1) v ++ drop (n + 1) d
-fill-more n v d l = subst (λ (k : ℕ). set (replicate n v ++ drop n d) n v ≡ replicate k v ++ drop k d) (sym (add-one n)) (fill-suc n v d l)
 
 -- ---- the second half cleared
 

@@ -10,18 +10,20 @@ use borrow.Author.Needs.{needs}
 use Rattle.solver.specs.declared.plane.Plane.{Plane}
 use Rattle.solver.specs.declared.four_d.Turned.{Turned}
 use Rattle.solver.specs.declared.four_d.Turned.the-variants.{Kept, LeftOut}
-use Rattle.solver.specs.Plane.{planeAt, planesOf}
+use Rattle.solver.specs.Plane.{planeAt, planesOf, withPlane}
 use Rattle.solver.specs.FourD.{kept, turnBy}
-use Rattle.solver.specs.FourDScratch.{written, TurnedOne}
-use Rattle.solver.proofs.four_d.Scratch.{written-length, written-before, written-after, appended}
+use Rattle.solver.specs.FourDScratch.{TurnedOne}
+use Rattle.solver.proofs.Written.{written, written-length, written-before, written-after, with-room}
+use Rattle.solver.proofs.four_d.Scratch.{appended}
 use Rattle.solver.proofs.four_d.turn_one.Statement.{statement}
 use Rattle.solver.proofs.four_d.turn_one.Tie as tie
 
 with-kept : (count : ℕ) (constraint : Plane) (index n : ℕ) (xs ys : List Float) (p : Plane) → 12 * count ≤ length xs → index < count → n ≤ index
-    → turnBy constraint (planeAt (drop (6 * index) xs)) ≡ Kept p → ys ≡ written xs (6 * count + 6 * n) p → TurnedOne count constraint index n xs ys (n + 1)
+    → turnBy constraint (planeAt (drop (6 * index) xs)) ≡ Kept p → ys ≡ withPlane xs (count + n) p → TurnedOne count constraint index n xs ys (n + 1)
 unfolding kept
 with-kept count constraint index n xs ys p room below few is e =
-    subst (λ (zs : List Float). TurnedOne count constraint index n xs zs (n + 1)) (sym e)
+    let at : 6 * (count + n) ≡ 6 * count + 6 * n = omega arith in
+    subst (λ (zs : List Float). TurnedOne count constraint index n xs zs (n + 1)) (sym (e ∙ with-room xs (count + n) p (omega arith) ∙ ap (λ (k : ℕ). written xs k p) at))
     (record {
       keeps = record {
         same-length = written-length xs (6 * count + 6 * n) p;
@@ -49,12 +51,6 @@ turn-by-requires c κs = search needs
 
 enum-known-plane : tie.Need-enum-known-plane
 enum-known-plane c = search needs
-
-mul-write-plane : tie.Need-mul-write-plane
-mul-write-plane c = search needs
-
-mul-write-plane-2 : tie.Need-mul-write-plane-2
-mul-write-plane-2 c = search needs
 
 add-write-plane : tie.Need-add-write-plane
 add-write-plane c = search needs
@@ -96,8 +92,6 @@ turn-one-spec =
     plane-at-requires
     turn-by-requires
     enum-known-plane
-    mul-write-plane
-    mul-write-plane-2
     add-write-plane
     write-plane-requires
     add-result

@@ -1,0 +1,132 @@
+-- Document 01's worked examples marked P, but for the roots (`vectors`), proved by running the definitions: `worked-examples` is one
+-- statement over the list of them.
+use mathlib.Core.Path.{_≡_, refl}
+use mathlib.Core.List.{List, [], _∷_}
+use lib.Ieee.{Float, add, sub, mul, div, neg, lt, le, eq, isNan, ofBits}
+use Rattle.vectors.specs.declared.vec3.Vec3.{Vec3}
+use Rattle.vectors.specs.Number.{ofWord, zero, one, larger, smaller, clamped, finite, plusZero}
+use Rattle.vectors.specs.Vec3.{zeroVec, _+ᵥ_, _-ᵥ_, _*ᵥ_, _/ᵥ_, dot, cross, lengthSquared, lengthRecip, normalize, normalizeOrZero}
+use Rattle.vectors.specs.Root.{root}
+use Rattle.solver.specs.declared.plane.Plane.{Plane}
+use Rattle.solver.specs.declared.plane.Optimum.{Optimum}
+use Rattle.solver.specs.declared.plane.Optimum.the-variants.{Point}
+use Rattle.avoidance.specs.declared.neighbour.Agent.{Agent}
+use Rattle.avoidance.specs.declared.checks.Request.{Request}
+use Rattle.solver.specs.declared.three_d.Failure.{Failure}
+use Rattle.solver.specs.declared.three_d.Outcome.{Outcome}
+use Rattle.solver.specs.declared.three_d.Outcome.the-variants.{Infeasible}
+use Rattle.avoidance.specs.declared.velocity.Reply.{Reply}
+use Rattle.avoidance.specs.declared.velocity.Reply.the-variants.{Free, Relaxed}
+use Rattle.solver.specs.Plane.{signedDistance, inTurn}
+use Rattle.solver.specs.AlongLine.{alongLine, bestOn, atClamped, pointOn, cutAll, cutBy, openOr}
+use Rattle.solver.specs.AlongPlane.{alongPlane, startOn, onCircle, lineOn, byLine, byConstraint}
+use Rattle.solver.specs.ThreeD.{threeD, startIn, onPlane, byPlane}
+use Rattle.solver.specs.FourD.{fourD, relaxBy, relaxedTo, turnedAll, kept, turnBy, turnedPlane}
+use Rattle.avoidance.specs.Neighbour.{vectorAt, agentAt, planeFor, relationOf, projected, projectedFree, projectedCollision, collisionNormal, onSphere, onCone, coneTime, share}
+use Rattle.avoidance.specs.Checks.{checks, unless, badFallback, badNeighbours, firstOf, firstBad, bad, outside, kindAt, numbersOf, neighbourCount, scratchFor}
+use Rattle.solver.specs.Solve.{solve, valueOf}
+use Rattle.avoidance.specs.Velocity.{planesOfCall, planesFrom, planeOf, finiteVec, finitePlane, firstPlane, plusZeros, answered, replyOf, fromPlanes, afterChecks, plannedReply, velocityCall}
+
+-- ---- what an example says
+
+pub data Example : Type 0 where
+  planes : Request → List Float → List Plane → Example
+  reply : Request → List Float → Reply → Example
+  program : List Plane → Float → Optimum → Outcome → Example
+  relaxed : List Plane → Float → Failure → Vec3 → Example
+
+abbrev pub Holds : Example → Type 0
+Holds (planes request neighbours these) = planesOfCall request neighbours ≡ these
+Holds (reply request neighbours this) = velocityCall request neighbours (scratchFor (neighbourCount neighbours)) ≡ this
+Holds (program constraints radius optimum this) = threeD constraints radius optimum ≡ this
+Holds (relaxed constraints radius failure this) = fourD constraints radius failure ≡ this
+
+abbrev pub All : List Example → Type 0
+All [] = Unit {0}
+All (e ∷ es) = Holds e × All es
+
+-- ---- numbers
+
+abbrev minusOne : Float
+minusOne = ofWord 0xBF80_0000
+
+abbrev half : Float
+half = ofWord 0x3F00_0000
+
+abbrev oneAndHalf : Float
+oneAndHalf = ofWord 0x3FC0_0000
+
+abbrev two : Float
+two = ofWord 0x4000_0000
+
+abbrev three : Float
+three = ofWord 0x4040_0000
+
+abbrev four : Float
+four = ofWord 0x4080_0000
+
+abbrev five : Float
+five = ofWord 0x40A0_0000
+
+abbrev ten : Float
+ten = ofWord 0x4120_0000
+
+-- 2^-80
+abbrev tiny : Float
+tiny = ofWord 0x1780_0000
+
+abbrev along : Float → Vec3
+along x = record { x = x; y = zero; z = zero }
+
+abbrev up : Float → Vec3
+up z = record { x = zero; y = zero; z = z }
+
+-- ---- requests
+
+-- an agent at 0 of the responsibility 1
+abbrev agent : Vec3 → Float → Agent
+agent velocity radius = record { position = along zero; velocity = velocity; radius = radius; responsibility = one }
+
+-- a neighbour at (x, 0, 0), still, of the radius 1 and the responsibility 1
+abbrev neighbour : Float → List Float
+neighbour x = x ∷ zero ∷ zero ∷ zero ∷ zero ∷ zero ∷ one ∷ one ∷ []
+
+-- a still agent of the radius 1, with the time step 1/2, the horizon 2 and the fallback (0, 0, 1)
+abbrev still : Float → Float → Request
+still preferred speed = record { agent = agent (along zero) one; preferred = along preferred; «max_speed» = speed; «time_step» = half; horizon = two; fallback = up one }
+
+-- the radius sum is 3, the horizon 1, and the agent flies at a neighbour past the ring
+abbrev headOn : Request
+headOn = record { agent = agent (along ten) two; preferred = along ten; «max_speed» = ten; «time_step» = half; horizon = one; fallback = up one }
+
+abbrev opposed : List Plane
+opposed = record { point = along one; normal = along one } ∷ record { point = along minusOne; normal = along minusOne } ∷ []
+
+abbrev failed : Failure
+failed = record { index = 1; value = along one }
+
+-- ---- the examples
+
+pub worked-examples : All (
+    -- free branch
+    planes (still half two) (neighbour four) (record { point = along one; normal = along minusOne } ∷ [])
+    ∷ reply (still half two) (neighbour four) (Free (along half))
+    ∷ reply (still one two) (neighbour four) (Free (along one))
+    ∷ reply (still oneAndHalf two) (neighbour four) (Free (along one))
+    ∷ reply (still four two) (neighbour four) (Free (along one))
+    -- touching
+    ∷ planes (still zero one) (neighbour two) (record { point = along zero; normal = along minusOne } ∷ [])
+    -- coincident
+    ∷ planes (still zero one) (neighbour zero) (record { point = up two; normal = up one } ∷ [])
+    ∷ reply (still zero one) (neighbour zero) (Relaxed (up one) 0)
+    -- two opposed planes
+    ∷ program opposed two (Point zero zero zero) (Infeasible failed)
+    ∷ relaxed opposed two failed (along zero)
+    -- head-on past the ring
+    ∷ planes headOn (neighbour five) (record { point = along ten; normal = along zero } ∷ [])
+    ∷ reply headOn (neighbour five) (Free (along ten))
+    -- no neighbours, and a square that underflows
+    ∷ reply (still tiny zero) [] (Free (along tiny))
+    ∷ [])
+unfolding threeD startIn onPlane byPlane inTurn alongPlane startOn onCircle lineOn byLine byConstraint alongLine bestOn atClamped pointOn cutAll cutBy openOr signedDistance fourD relaxBy relaxedTo turnedAll kept turnBy turnedPlane _+ᵥ_ _-ᵥ_ _*ᵥ_ dot cross lengthSquared normalize root larger smaller clamped add sub mul div neg lt le eq isNan ofBits planesOfCall planesFrom planeOf vectorAt agentAt planeFor relationOf projected projectedFree projectedCollision collisionNormal onSphere onCone coneTime share _/ᵥ_ lengthRecip normalizeOrZero zeroVec finite plusZero finiteVec finitePlane firstPlane plusZeros answered replyOf fromPlanes afterChecks plannedReply velocityCall solve valueOf checks unless badFallback badNeighbours firstOf firstBad bad outside kindAt numbersOf
+worked-examples = (refl, (refl, (refl, (refl, (refl, (refl, (refl, (refl, (refl, (refl, (refl, (refl, (refl, tt)))))))))))))

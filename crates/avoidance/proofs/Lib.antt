@@ -1,0 +1,3 @@
+-- What is proved of the definitions themselves.
+pub mod Refusals
+pub mod Examples

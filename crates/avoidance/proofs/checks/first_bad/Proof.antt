@@ -1,0 +1,97 @@
+use mathlib.Core.Path.{_≡_, refl, sym, ap, _∙_}
+use mathlib.Core.Bool.{true, false, cond}
+use mathlib.Core.List.{List, _∷_}
+use Prim.Native.Nat.{ℕ, suc, _+_, _-_, _≤_, _<_}
+use native.Mathlib.Nat.{add-zero}
+use native.Mathlib.Numerals.{add-one}
+use native.Mathlib.Omega.{arith}
+use borrow.Author.Needs.{needs}
+use denote.Ref.{now}
+use lib.Ieee.{Float, nan}
+use lib.ListN.{length, getD, drop, drop-of-length-le}
+use lib.Seq.{drop-cons}
+use Rattle.avoidance.specs.declared.checks.Asked.{Asked}
+use Rattle.avoidance.specs.declared.checks.Found.{Found}
+use Rattle.avoidance.specs.declared.checks.Found.the-variants.{At, Nothing}
+use Rattle.avoidance.specs.Checks.{bad, firstBad}
+use Rattle.avoidance.proofs.checks.first_bad.Statement.{statement}
+use Rattle.avoidance.proofs.checks.first_bad.Tie as tie
+
+-- a number is the first bad one, or the next place is looked at
+here : (asked : Asked) (start index : ℕ) (xs : List Float) → index < length xs → bad asked (start + index) (getD xs index nan) ≡ true → firstBad asked (start + index) (drop index xs) ≡ At (start + index)
+unfolding firstBad
+here asked start index xs h is = rw (drop-cons xs index nan h, is)
+
+later : (asked : Asked) (start index : ℕ) (xs : List Float) → index < length xs → bad asked (start + index) (getD xs index nan) ≡ false
+    → firstBad asked (start + index) (drop index xs) ≡ firstBad asked (start + (index + 1)) (drop (index + 1) xs)
+unfolding firstBad
+later asked start index xs h is =
+    let next : suc (start + index) ≡ start + (index + 1) = omega arith in
+    rw (drop-cons xs index nan h, is, next, add-one index)
+
+abbrev Inv-loop : tie.InvT-loop
+Inv-loop asked start numbers index₀ index = (index ≤ length numbers) × (firstBad asked (start + index) (drop index numbers) ≡ firstBad asked start numbers)
+
+abbrev μ-loop : tie.MeasureT-loop
+μ-loop asked start numbers index₀ index = length numbers - index
+
+loop-holds : tie.Need-loop-holds Inv-loop μ-loop
+loop-holds c = (omega arith, rw (add-zero (c .before .args .start)))
+
+add-is-bad : tie.Need-add-is-bad Inv-loop μ-loop
+add-is-bad c = omega arith
+
+mul-is-bad : tie.Need-mul-is-bad Inv-loop μ-loop
+mul-is-bad c = search needs
+
+shared-slice-read-is-bad : tie.Need-shared-slice-read-is-bad Inv-loop μ-loop
+shared-slice-read-is-bad c = omega arith
+
+is-bad-requires : tie.Need-is-bad-requires Inv-loop μ-loop
+is-bad-requires c κs = search needs
+
+add-t11 : tie.Need-add-t11 Inv-loop μ-loop
+add-t11 c = omega arith
+
+returns : tie.Need-returns Inv-loop μ-loop
+returns c =
+    let at = c .before .before .before .before in
+    let start = at .before .before in
+    sym (here (start .args .asked) (start .args .start) (at .loop .index) (now (start .args .numbers)) (c .before .before .before .loop-test .taken) (sym (c .before .is-bad .ensures) ∙ c .if1 .taken)) ∙ at .loop .inv .1
+
+add-index : tie.Need-add-index Inv-loop μ-loop
+add-index c = omega arith
+
+loop-less : tie.Need-loop-less Inv-loop μ-loop
+loop-less c = omega arith
+
+loop-again : tie.Need-loop-again Inv-loop μ-loop
+loop-again c =
+    let at = c .before .before .before .before in
+    let start = at .before .before in
+    (omega arith, sym (later (start .args .asked) (start .args .start) (at .loop .index) (now (start .args .numbers)) (c .before .before .before .loop-test .taken) (sym (c .before .is-bad .ensures) ∙ c .if1 .left)) ∙ at .loop .inv .1)
+
+returns-2 : tie.Need-returns-2 Inv-loop μ-loop
+unfolding firstBad
+returns-2 c =
+    let at = c .before in
+    let start = at .before .before in
+    sym (ap (firstBad (start .args .asked) (start .args .start + at .loop .index)) (drop-of-length-le (now (start .args .numbers)) (c .loop-test .left))) ∙ at .loop .inv .1
+
+pub first-bad-spec : {M : Type 1} → statement M
+first-bad-spec =
+    tie.close
+    (tie.spec
+    Inv-loop
+    μ-loop
+    loop-holds
+    add-is-bad
+    mul-is-bad
+    shared-slice-read-is-bad
+    is-bad-requires
+    add-t11
+    returns
+    add-index
+    loop-less
+    loop-again
+    returns-2)
