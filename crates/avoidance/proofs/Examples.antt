@@ -3,7 +3,7 @@
 use mathlib.Core.Path.{_≡_, refl}
 use mathlib.Core.List.{List, [], _∷_}
 use lib.Ieee.{Float, add, sub, mul, div, neg, lt, le, eq, isNan, ofBits}
-use Rattle.vectors.specs.declared.vec3.Vec3.{Vec3}
+use Rattle.vectors.specs.declared.Vec3.{Vec3}
 use Rattle.vectors.specs.Number.{ofWord, zero, one, larger, smaller, clamped, finite, plusZero}
 use Rattle.vectors.specs.Vec3.{zeroVec, _+ᵥ_, _-ᵥ_, _*ᵥ_, _/ᵥ_, dot, cross, lengthSquared, lengthRecip, normalize, normalizeOrZero}
 use Rattle.vectors.specs.Root.{root}

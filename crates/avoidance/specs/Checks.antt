@@ -5,7 +5,7 @@ use mathlib.Core.List.{List, [], _∷_, _++_}
 use lib.Dec.{leb, ltb, eqb}
 use lib.ListN.{length, getD, drop}
 use lib.Ieee.{Float, nan}
-use Rattle.vectors.specs.declared.vec3.Vec3.{Vec3}
+use Rattle.vectors.specs.declared.Vec3.{Vec3}
 use Rattle.vectors.specs.Number.{_<ᶠ_, _>ᶠ_, zero, ofWord, finite}
 use Rattle.vectors.specs.Vec3.{dot}
 use Rattle.avoidance.specs.declared.checks.Request.{Request}

@@ -7,8 +7,8 @@ ghost use Rattle.avoidance.specs.Checks.{numbersOf, readRequest, kindAt,
 use super::neighbour::Agent;
 use super::neighbour::agent_at;
 use super::neighbour::vector_at;
+use vectors::Vec3;
 use vectors::number::is_finite;
-use vectors::vec3::Vec3;
 
 pub struct Request {
     pub agent: Agent,

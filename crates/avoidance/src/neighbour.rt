@@ -5,9 +5,9 @@ ghost use Prim.Native.Nat.{_+_, _≤_};
 ghost use lib.ListN.{length, drop};
 ghost use Rattle.avoidance.specs.Neighbour.{vectorAt, agentAt, onSphere, coneTime, onCone, projectedFree, collisionNormal, projectedCollision, projected, share, planeFor};
 use solver::plane::Plane;
+use vectors::Vec3;
 use vectors::number::is_finite;
 use vectors::root::root;
-use vectors::vec3::Vec3;
 
 pub struct Agent {
     pub position: Vec3,

@@ -17,9 +17,9 @@ use solver::plane::write_plane;
 use solver::solve::Solution;
 use solver::solve::solve;
 use solver::three_d::Outcome;
+use vectors::Vec3;
 use vectors::number::is_finite;
 use vectors::number::plus_zero;
-use vectors::vec3::Vec3;
 
 // What a velocity call answers: a velocity, free or relaxed from a plane on, or a refusal.
 pub enum Reply {

@@ -7,7 +7,7 @@ ghost use Rattle.guineacrumb.specs.Velocity.{componentsOf, relaxedFrom, 
 use avoidance::checks::ReadRequest;
 use avoidance::checks::Request;
 use avoidance::velocity::Reply;
-use vectors::vec3::Vec3;
+use vectors::Vec3;
 
 // The answer to lengths that do not fit.
 const BAD_LENGTHS: u32 = 255;

@@ -7,7 +7,7 @@ use Prim.Native.Nat.{ℕ}
 use lib.Dec.{T}
 use lib.ListN.{length}
 use lib.Ieee.{Float, neg}
-use Rattle.vectors.specs.declared.vec3.Vec3.{Vec3}
+use Rattle.vectors.specs.declared.Vec3.{Vec3}
 use Rattle.vectors.specs.Number.{_⊕_, _⊖_, _⊗_, _<ᶠ_, _≤ᶠ_, _>ᶠ_, _≥ᶠ_, zero, rvoEpsilon}
 use Rattle.vectors.specs.Vec3.{dot, cross}
 use Rattle.vectors.specs.Root.{root}

@@ -4,7 +4,7 @@ use mathlib.Core.List.{List, []}
 use lib.Ieee.{Float, neg}
 use Rattle.vectors.specs.declared.number.Clamped.{Clamped}
 use Rattle.vectors.specs.declared.number.Clamped.the-variants as clamp
-use Rattle.vectors.specs.declared.vec3.Vec3.{Vec3}
+use Rattle.vectors.specs.declared.Vec3.{Vec3}
 use Rattle.vectors.specs.Number.{_⊕_, _⊖_, _⊗_, _⊘_, _<ᶠ_, _≤ᶠ_, _>ᶠ_, _≥ᶠ_, zero, rvoEpsilon, larger, smaller, clamped}
 use Rattle.vectors.specs.Root.{root}
 use Rattle.vectors.specs.Vec3.{_+ᵥ_, _-ᵥ_, _*ᵥ_, dot}

@@ -2,7 +2,7 @@
 use mathlib.Core.Bool.{cond}
 use mathlib.Core.List.{List, []}
 use lib.Ieee.{Float}
-use Rattle.vectors.specs.declared.vec3.Vec3.{Vec3}
+use Rattle.vectors.specs.declared.Vec3.{Vec3}
 use Rattle.vectors.specs.Number.{_⊖_, _⊗_, _⊘_, _≤ᶠ_, _>ᶠ_, _≥ᶠ_, zero, rvoEpsilon}
 use Rattle.vectors.specs.Root.{root}
 use Rattle.vectors.specs.Vec3.{_+ᵥ_, _-ᵥ_, _*ᵥ_, dot, cross, normalize}

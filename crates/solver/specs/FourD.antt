@@ -4,7 +4,7 @@ use mathlib.Core.Bool.{cond}
 use mathlib.Core.List.{List, [], _∷_, _++_}
 use lib.ListN.{length, take, drop, replicate}
 use lib.Ieee.{Float, neg}
-use Rattle.vectors.specs.declared.vec3.Vec3.{Vec3}
+use Rattle.vectors.specs.declared.Vec3.{Vec3}
 use Rattle.vectors.specs.Number.{_⊘_, _≤ᶠ_, _>ᶠ_, zero, ofWord, rvoEpsilon}
 use Rattle.vectors.specs.Vec3.{_+ᵥ_, _-ᵥ_, _*ᵥ_, dot, cross, normalize}
 use Rattle.solver.specs.declared.plane.Plane.{Plane}

@@ -1,7 +1,7 @@
 -- `solve_linear_program`: the second part of the velocity call's definition, on a list of planes wherever they come from.
 use mathlib.Core.List.{List}
 use lib.Ieee.{Float}
-use Rattle.vectors.specs.declared.vec3.Vec3.{Vec3}
+use Rattle.vectors.specs.declared.Vec3.{Vec3}
 use Rattle.vectors.specs.Vec3.{zeroVec}
 use Rattle.solver.specs.declared.plane.Plane.{Plane}
 use Rattle.solver.specs.declared.plane.Optimum.the-variants.{Point}

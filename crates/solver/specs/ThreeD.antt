@@ -4,7 +4,7 @@ use mathlib.Core.Bool.{cond}
 use mathlib.Core.List.{List, []}
 use lib.ListN.{length}
 use lib.Ieee.{Float}
-use Rattle.vectors.specs.declared.vec3.Vec3.{Vec3}
+use Rattle.vectors.specs.declared.Vec3.{Vec3}
 use Rattle.vectors.specs.Number.{_⊗_, _>ᶠ_, zero}
 use Rattle.vectors.specs.Vec3.{_*ᵥ_, lengthSquared, normalize}
 use Rattle.solver.specs.declared.plane.Plane.{Plane}

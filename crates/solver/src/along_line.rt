@@ -8,13 +8,13 @@ use super::plane::Line;
 use super::plane::Optimum;
 use super::plane::Plane;
 use super::plane::plane_at;
+use vectors::Vec3;
 use vectors::number::Clamped;
 use vectors::number::RVO_EPSILON;
 use vectors::number::clamp;
 use vectors::number::larger_of;
 use vectors::number::smaller_of;
 use vectors::root::root;
-use vectors::vec3::Vec3;
 
 // What is left of a line: the times from `left` to `right`, or nothing.
 pub enum Cut {

@@ -11,9 +11,9 @@ use super::plane::Line;
 use super::plane::Optimum;
 use super::plane::Plane;
 use super::plane::plane_at;
+use vectors::Vec3;
 use vectors::number::RVO_EPSILON;
 use vectors::root::root;
-use vectors::vec3::Vec3;
 
 // From `center` along `way`, as far as the circle of the squared radius reaches.
 fn on_circle(center: Vec3, squared_radius: f32, way: Vec3, squared_length: f32) -> Vec3

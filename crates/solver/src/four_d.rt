@@ -16,8 +16,8 @@ use super::plane::write_plane;
 use super::three_d::Failure;
 use super::three_d::Outcome;
 use super::three_d::three_d;
+use vectors::Vec3;
 use vectors::number::RVO_EPSILON;
-use vectors::vec3::Vec3;
 
 // What turning a previous plane gives: a plane, or nothing where the two face the same way.
 pub enum Turned {

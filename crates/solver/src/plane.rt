@@ -5,7 +5,7 @@ ghost use Prim.Native.Nat.{_*_, _/_, _<_};
 ghost use lib.ListN.{length, drop, replicate};
 ghost use Rattle.vectors.specs.Number.{zero};
 ghost use Rattle.solver.specs.Plane.{signedDistance, planeAt, withPlane};
-use vectors::vec3::Vec3;
+use vectors::Vec3;
 
 // A half-space: the values on the side of `point` that `normal` shows.
 pub struct Plane {

@@ -11,7 +11,7 @@ use super::plane::Optimum;
 use super::plane::clear;
 use super::three_d::Outcome;
 use super::three_d::three_d;
-use vectors::vec3::Vec3;
+use vectors::Vec3;
 
 // The value, and how 3D came out: where that is a bad clamp, the value is three +0s.
 pub struct Solution {

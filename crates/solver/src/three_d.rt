@@ -8,7 +8,7 @@ use super::along_plane::along_plane;
 use super::plane::Answer;
 use super::plane::Optimum;
 use super::plane::plane_at;
-use vectors::vec3::Vec3;
+use vectors::Vec3;
 
 // The plane at which the program was found infeasible, and the value that the planes before it left.
 pub struct Failure {

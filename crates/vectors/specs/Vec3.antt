@@ -1,7 +1,7 @@
 -- Vectors of three: document 01's lines on glam, one IEEE 754 operation at a time and in this order.
 use mathlib.Core.Bool.{_&&_, cond}
 use lib.Ieee.{Float}
-use Rattle.vectors.specs.declared.vec3.Vec3.{Vec3}
+use Rattle.vectors.specs.declared.Vec3.{Vec3}
 use Rattle.vectors.specs.Number.{_⊕_, _⊖_, _⊗_, _⊘_, _>ᶠ_, zero, one, finite}
 use Rattle.vectors.specs.Root.{root}
 

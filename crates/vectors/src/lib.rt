@@ -2,4 +2,11 @@
 // stands on. Every public function is total, and ensures equality with a definition of `specs/`.
 pub mod number;
 pub mod root;
-pub mod vec3;
+pub mod vector;
+
+// A vector of three numbers; what is done with it is in `vector`.
+pub struct Vec3 {
+    pub x: f32,
+    pub y: f32,
+    pub z: f32,
+}

@@ -5,7 +5,7 @@ use lib.ListN.{length, set}
 use lib.Ieee.{Float}
 use borrow.Author.Needs.{needs}
 use denote.Ref.{now}
-use Rattle.vectors.specs.declared.vec3.Vec3.{Vec3}
+use Rattle.vectors.specs.declared.Vec3.{Vec3}
 use Rattle.guineacrumb.specs.Velocity.{componentsOf}
 use Rattle.guineacrumb.proofs.write.Statement.{statement}
 use Rattle.guineacrumb.proofs.write.Tie as tie

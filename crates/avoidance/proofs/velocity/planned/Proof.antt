@@ -11,7 +11,7 @@ use types.Run.{OneOf, miss}
 use lib.Ieee.{Float}
 use lib.ListN.{length, take, drop, replicate, length-append, drop-of-length-le}
 use lib.Seq.{take-at}
-use Rattle.vectors.specs.declared.vec3.Vec3.{Vec3}
+use Rattle.vectors.specs.declared.Vec3.{Vec3}
 use Rattle.vectors.specs.Number.{zero}
 use Rattle.solver.specs.declared.plane.Plane.{Plane}
 use Rattle.avoidance.specs.declared.checks.Request.{Request}

@@ -1,5 +1,5 @@
 use Rattle.vectors.specs.Vec3.{dot}
-use Rattle.vectors.specs.declared.vec3.Vec3.{Vec3}
+use Rattle.vectors.specs.declared.Vec3.{Vec3}
 use borrow.Author.Needs.{needs}
 use mathlib.Core.Path.{ap, _∙_}
 use Rattle.solver.specs.Plane.{signedDistance}

@@ -1,7 +1,7 @@
 use mathlib.Core.Path.{refl}
 use Rattle.vectors.specs.Vec3.{_-ᵥ_}
-use Rattle.vectors.proofs.vec3.Vec3.sub.Statement.{statement}
-use Rattle.vectors.proofs.vec3.Vec3.sub.Tie as tie
+use Rattle.vectors.proofs.Vec3.sub.Statement.{statement}
+use Rattle.vectors.proofs.Vec3.sub.Tie as tie
 
 returns : tie.Need-returns
 unfolding _-ᵥ_

@@ -1,7 +1,7 @@
 use mathlib.Core.Path.{refl}
 use Rattle.vectors.specs.Vec3.{zeroVec}
-use Rattle.vectors.proofs.vec3.Vec3.zero.Statement.{statement}
-use Rattle.vectors.proofs.vec3.Vec3.zero.Tie as tie
+use Rattle.vectors.proofs.Vec3.zero.Statement.{statement}
+use Rattle.vectors.proofs.Vec3.zero.Tie as tie
 
 returns : tie.Need-returns
 unfolding zeroVec

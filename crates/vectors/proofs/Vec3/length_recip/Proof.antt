@@ -3,8 +3,8 @@ use lib.Ieee.{Float}
 use borrow.Author.Needs.{needs}
 use Rattle.vectors.specs.Number.{one, _⊘_}
 use Rattle.vectors.specs.Vec3.{lengthRecip}
-use Rattle.vectors.proofs.vec3.Vec3.length_recip.Statement.{statement}
-use Rattle.vectors.proofs.vec3.Vec3.length_recip.Tie as tie
+use Rattle.vectors.proofs.Vec3.length_recip.Statement.{statement}
+use Rattle.vectors.proofs.Vec3.length_recip.Tie as tie
 
 length-requires : tie.Need-length-requires
 length-requires c κs = search needs

@@ -2,11 +2,11 @@ use mathlib.Core.Path.{_≡_, refl, sym, _∙_}
 use mathlib.Core.Bool.{Bool, true, false, _&&_, cond}
 use lib.Ieee.{Float}
 use borrow.Author.Needs.{needs}
-use Rattle.vectors.specs.declared.vec3.Vec3.{Vec3}
+use Rattle.vectors.specs.declared.Vec3.{Vec3}
 use Rattle.vectors.specs.Number.{zero, finite, _>ᶠ_}
 use Rattle.vectors.specs.Vec3.{normalizeOrZero, lengthRecip, zeroVec, _*ᵥ_}
-use Rattle.vectors.proofs.vec3.Vec3.normalize_or_zero.Statement.{statement}
-use Rattle.vectors.proofs.vec3.Vec3.normalize_or_zero.Tie as tie
+use Rattle.vectors.proofs.Vec3.normalize_or_zero.Statement.{statement}
+use Rattle.vectors.proofs.Vec3.normalize_or_zero.Tie as tie
 
 -- the definition at the outcomes of the two tests
 by-tests : (v : Vec3) (s : Float) (a b : Bool) → s ≡ lengthRecip v → finite s ≡ a → (s >ᶠ zero) ≡ b → normalizeOrZero v ≡ cond (a && b) (v *ᵥ s) zeroVec

@@ -2,8 +2,8 @@ use mathlib.Core.Path.{ap, _∙_}
 use borrow.Author.Needs.{needs}
 use Rattle.vectors.specs.Root.{root}
 use Rattle.vectors.specs.Vec3.{length}
-use Rattle.vectors.proofs.vec3.Vec3.length.Statement.{statement}
-use Rattle.vectors.proofs.vec3.Vec3.length.Tie as tie
+use Rattle.vectors.proofs.Vec3.length.Statement.{statement}
+use Rattle.vectors.proofs.Vec3.length.Tie as tie
 
 dot-requires : tie.Need-dot-requires
 dot-requires c κs = search needs

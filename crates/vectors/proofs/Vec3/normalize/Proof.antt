@@ -2,8 +2,8 @@ use mathlib.Core.Path.{ap, _∙_}
 use lib.Ieee.{Float}
 use borrow.Author.Needs.{needs}
 use Rattle.vectors.specs.Vec3.{normalize, _*ᵥ_}
-use Rattle.vectors.proofs.vec3.Vec3.normalize.Statement.{statement}
-use Rattle.vectors.proofs.vec3.Vec3.normalize.Tie as tie
+use Rattle.vectors.proofs.Vec3.normalize.Statement.{statement}
+use Rattle.vectors.proofs.Vec3.normalize.Tie as tie
 
 length-recip-requires : tie.Need-length-recip-requires
 length-recip-requires c κs = search needs

@@ -1,7 +1,7 @@
 use mathlib.Core.Path.{refl}
 use Rattle.vectors.specs.Vec3.{dot}
-use Rattle.vectors.proofs.vec3.Vec3.dot.Statement.{statement}
-use Rattle.vectors.proofs.vec3.Vec3.dot.Tie as tie
+use Rattle.vectors.proofs.Vec3.dot.Statement.{statement}
+use Rattle.vectors.proofs.Vec3.dot.Tie as tie
 
 returns : tie.Need-returns
 unfolding dot

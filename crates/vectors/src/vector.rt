@@ -3,14 +3,9 @@
 // `specs/Vec3.antt`, are document 01's lines on glam.
 ghost use mathlib.Core.Path.{_≡_};
 ghost use Rattle.vectors.specs.Vec3.{zeroVec, _+ᵥ_, _-ᵥ_, _*ᵥ_, _/ᵥ_, dot, cross, lengthSquared, length, lengthRecip, normalize, normalizeOrZero, distanceSquared};
+use super::Vec3;
 use super::number::is_finite;
 use super::root::root;
-
-pub struct Vec3 {
-    pub x: f32,
-    pub y: f32,
-    pub z: f32,
-}
 
 impl Vec3 {
     // Three +0s.

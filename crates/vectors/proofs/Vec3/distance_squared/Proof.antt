@@ -1,8 +1,8 @@
 use mathlib.Core.Path.{ap, _∙_}
 use borrow.Author.Needs.{needs}
 use Rattle.vectors.specs.Vec3.{lengthSquared, distanceSquared}
-use Rattle.vectors.proofs.vec3.Vec3.distance_squared.Statement.{statement}
-use Rattle.vectors.proofs.vec3.Vec3.distance_squared.Tie as tie
+use Rattle.vectors.proofs.Vec3.distance_squared.Statement.{statement}
+use Rattle.vectors.proofs.Vec3.distance_squared.Tie as tie
 
 sub-requires : tie.Need-sub-requires
 sub-requires c κs = search needs

@@ -1,7 +1,7 @@
 use mathlib.Core.Path.{refl}
 use Rattle.vectors.specs.Vec3.{cross}
-use Rattle.vectors.proofs.vec3.Vec3.cross.Statement.{statement}
-use Rattle.vectors.proofs.vec3.Vec3.cross.Tie as tie
+use Rattle.vectors.proofs.Vec3.cross.Statement.{statement}
+use Rattle.vectors.proofs.Vec3.cross.Tie as tie
 
 returns : tie.Need-returns
 unfolding cross

@@ -1,7 +1,7 @@
 use borrow.Author.Needs.{needs}
 use Rattle.vectors.specs.Vec3.{lengthSquared}
-use Rattle.vectors.proofs.vec3.Vec3.length_squared.Statement.{statement}
-use Rattle.vectors.proofs.vec3.Vec3.length_squared.Tie as tie
+use Rattle.vectors.proofs.Vec3.length_squared.Statement.{statement}
+use Rattle.vectors.proofs.Vec3.length_squared.Tie as tie
 
 dot-requires : tie.Need-dot-requires
 dot-requires c κs = search needs
