@@ -80,8 +80,8 @@ bounds c =
     let b = root-bounds _ (c .before .before .scale .result .power) (p .q-least) (p .q-most) in
     (rw (found c) (b .0), rw (found c) (b .1), omega (arith, p .p-most))
 
-float-to-bits-scale : tie.Need-float-to-bits-scale
-float-to-bits-scale c = positive-no-nan (c .before .before .args .x) (c .before .if1 .taken)
+float-to-bits-word : tie.Need-float-to-bits-word
+float-to-bits-word c = positive-no-nan (c .before .before .args .x) (c .before .if1 .taken)
 
 scale-requires : tie.Need-scale-requires
 scale-requires c κs = positive-word _ (passes _ (c .before .before .good .0 .1)) (c .before .if1 .taken) (c .if2 .taken)
@@ -138,7 +138,7 @@ pub root-spec : {M : Type 1} → statement M
 root-spec =
     tie.close
     (tie.spec
-    float-to-bits-scale
+    float-to-bits-word
     scale-requires
     sub-a
     shl-a
