@@ -1,8 +1,10 @@
 // Document 01, module 7: the velocity call's request, and its checks 1 to 5. The definitions are in
 // `specs/Checks.antt`.
 ghost use mathlib.Core.Path.{_≡_};
+ghost use mathlib.Core.Bool.{true, false};
 ghost use Prim.Native.Nat.{_≤_};
 ghost use lib.ListN.{length};
+ghost use Rattle.vectors.specs.Number.{_<ᶠ_, zero};
 ghost use Rattle.avoidance.specs.Checks.{numbersOf, readRequest, kindAt, bad, firstBad, firstOf, badFallback, checks};
 use super::neighbour::Agent;
 use super::neighbour::agent_at;
@@ -152,6 +154,62 @@ fn first_bad(asked: Asked, start: usize, numbers: &[f32]) -> Found
     Found::Nothing
 }
 
+// Whether every number of the neighbours is finite. With no way out before the end, the loop looks at
+// several at a time.
+fn all_finite(numbers: &[f32]) -> bool
+    ensures { λ r. ⌜ (r ≡ true → firstBad Asked.Finite 17 (now (numbers .entry)) ≡ Found.Nothing) ⌝ }
+{
+    let mut all = true;
+    let mut index = 0;
+    while index < numbers.len() {
+        if !is_finite(numbers[index]) {
+            all = false;
+        }
+        index += 1;
+    }
+    all
+}
+
+fn is_negative(radius: f32, responsibility: f32) -> bool
+    ensures { λ r. ⌜ (r ≡ false → (radius <ᶠ zero ≡ false) × (responsibility <ᶠ zero ≡ false)) ⌝ }
+{
+    if radius < 0.0 {
+        true
+    } else {
+        responsibility < 0.0
+    }
+}
+
+// Whether every number of the neighbours is in its range. Only two of each eight can be out of it.
+fn all_in_range(numbers: &[f32]) -> bool
+    ensures { λ r. ⌜ (r ≡ true → firstBad Asked.InRange 17 (now (numbers .entry)) ≡ Found.Nothing) ⌝ }
+{
+    if numbers.len() % 8 != 0 {
+        return false;
+    }
+    let count = numbers.len() / 8;
+    let mut all = true;
+    let mut index = 0;
+    while index < count {
+        let at = 8 * index;
+        if is_negative(numbers[at + 6], numbers[at + 7]) {
+            all = false;
+        }
+        index += 1;
+    }
+    all
+}
+
+// Whether it is seen at once that none of the neighbours' numbers is bad.
+fn none_bad(asked: Asked, neighbours: &[f32]) -> bool
+    ensures { λ r. ⌜ (r ≡ true → firstBad asked 17 (now (neighbours .entry)) ≡ Found.Nothing) ⌝ }
+{
+    match asked {
+        Asked::Finite => all_finite(neighbours),
+        Asked::InRange => all_in_range(neighbours),
+    }
+}
+
 fn first_of(asked: Asked, request: Request, neighbours: &[f32]) -> Found
     ensures { λ r. ⌜ r ≡ firstOf asked request (now (neighbours .entry)) ⌝ }
 {
@@ -160,6 +218,9 @@ fn first_of(asked: Asked, request: Request, neighbours: &[f32]) -> Found
     let Found::Nothing = own else {
         return own;
     };
+    if none_bad(asked, neighbours) {
+        return Found::Nothing;
+    }
     first_bad(asked, 17, neighbours)
 }
 

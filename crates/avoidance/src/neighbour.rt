@@ -113,13 +113,10 @@ fn projected_free(relation: Relation, horizon: f32) -> Projection
     if dot < 0.0 {
         let reach = relation.radius * relation.radius * from_center.length_squared();
         if dot * dot > reach {
-            on_sphere(relation, horizon, center, from_center)
-        } else {
-            on_cone(relation)
+            return on_sphere(relation, horizon, center, from_center);
         }
-    } else {
-        on_cone(relation)
     }
+    on_cone(relation)
 }
 
 // The direction from the centre, or the caller's where its reciprocal length is not both finite and

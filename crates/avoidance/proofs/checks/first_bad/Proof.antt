@@ -14,20 +14,14 @@ use Rattle.avoidance.specs.declared.checks.Asked.{Asked}
 use Rattle.avoidance.specs.declared.checks.Found.{Found}
 use Rattle.avoidance.specs.declared.checks.Found.the-variants.{At, Nothing}
 use Rattle.avoidance.specs.Checks.{bad, firstBad}
+use Rattle.avoidance.proofs.checks.Passed.{later}
 use Rattle.avoidance.proofs.checks.first_bad.Statement.{statement}
 use Rattle.avoidance.proofs.checks.first_bad.Tie as tie
 
--- a number is the first bad one, or the next place is looked at
+-- a number is the first bad one
 here : (asked : Asked) (start index : ℕ) (xs : List Float) → index < length xs → bad asked (start + index) (getD xs index nan) ≡ true → firstBad asked (start + index) (drop index xs) ≡ At (start + index)
 unfolding firstBad
 here asked start index xs h is = rw (drop-cons xs index nan h, is)
-
-later : (asked : Asked) (start index : ℕ) (xs : List Float) → index < length xs → bad asked (start + index) (getD xs index nan) ≡ false
-    → firstBad asked (start + index) (drop index xs) ≡ firstBad asked (start + (index + 1)) (drop (index + 1) xs)
-unfolding firstBad
-later asked start index xs h is =
-    let next : suc (start + index) ≡ start + (index + 1) = omega arith in
-    rw (drop-cons xs index nan h, is, next, add-one index)
 
 abbrev Inv-loop : tie.InvT-loop
 Inv-loop asked start numbers index₀ index = (index ≤ length numbers) × (firstBad asked (start + index) (drop index numbers) ≡ firstBad asked start numbers)

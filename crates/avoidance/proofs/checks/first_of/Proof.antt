@@ -64,12 +64,23 @@ returns : tie.Need-returns
 unfolding orElse
 returns c = c .enum-told2 .given .1 ∙ sym (in-parts (c .before .before) ∙ rw (c .enum-told2 .given .1))
 
-first-bad-requires-2 : tie.Need-first-bad-requires-2
-first-bad-requires-2 c κs = search needs
+none-bad-requires : tie.Need-none-bad-requires
+none-bad-requires c κs = search needs
 
 returns-2 : tie.Need-returns-2
 unfolding orElse
-returns-2 c = c .first-bad2 .ensures ∙ sym (in-parts (c .before .before .before) ∙ rw (c .before .enum-told .given .1))
+returns-2 c =
+    let told = c .before .before in
+    sym (in-parts (told .before .before) ∙ rw (told .enum-told .given .1) (c .before .none-bad .ensures (c .if1 .taken)))
+
+first-bad-requires-2 : tie.Need-first-bad-requires-2
+first-bad-requires-2 c κs = search needs
+
+returns-3 : tie.Need-returns-3
+unfolding orElse
+returns-3 c =
+    let told = c .before .before .before in
+    c .first-bad2 .ensures ∙ sym (in-parts (told .before .before) ∙ rw (told .enum-told .given .1))
 
 pub first-of-spec : {M : Type 1} → statement M
 first-of-spec =
@@ -81,5 +92,7 @@ first-of-spec =
     enum-told
     enum-told-2
     returns
+    none-bad-requires
+    returns-2
     first-bad-requires-2
-    returns-2)
+    returns-3)
