@@ -3,6 +3,7 @@
 --     answered-0: answer 0 if and only if none holds
 --     lowest-place: the place of answers 3 and 4 is the lowest of a number that is bad
 --     lowest-plane: the neighbour of answer 6 is the lowest whose plane is not finite
+--     by-conditions: the answer is the number of the first condition that holds, for the layers above
 --     scratch-unread: of scratch only the length is read
 --     same-call: two calls that meet the promise answer alike and leave the same scratch
 use mathlib.Core.Path.{_≡_, refl, sym, ap, _∙_, subst}
@@ -36,7 +37,7 @@ use Rattle.avoidance.specs.Refusals.{FirstHolds, some, badOnes, badPlane
 -- ---- the first condition that holds
 
 -- its index, where the first one has the index i
-unfoldable firstAt : ℕ → List Bool → Found
+unfoldable pub firstAt : ℕ → List Bool → Found
 firstAt i [] = Nothing
 firstAt i (b ∷ bs) = cond b (At i) (firstAt (suc i) bs)
 
@@ -44,7 +45,7 @@ abbrev isFound : Found → Bool
 isFound (At i) = true
 isFound Nothing = false
 
-abbrev indexOf : Found → ℕ
+abbrev pub indexOf : Found → ℕ
 indexOf (At i) = i
 indexOf Nothing = 0
 
@@ -137,7 +138,8 @@ replied-number solution = go (finiteVec (solution .value)) (solution .outcome)
     go true (BadClamp i) = refl
     go false o = refl
 
-by-conditions : (request : Request) (neighbours : List Float) (k : ℕ) → number (velocityCall request neighbours k) ≡ indexOf (firstAt 1 (conditions request neighbours k))
+-- the answer is the number of the first condition that holds
+pub by-conditions : (request : Request) (neighbours : List Float) (k : ℕ) → number (velocityCall request neighbours k) ≡ indexOf (firstAt 1 (conditions request neighbours k))
 unfolding velocityCall checks plannedReply conditions firstOf
 by-conditions request neighbours k =
     let numbers = numbersOf request ++ neighbours in
