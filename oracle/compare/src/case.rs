@@ -67,7 +67,7 @@ impl Case {
         ]
     }
 
-    /// The call in the form of a stored list, whose lines crates/velocity_examples/src/main.rt describes.
+    /// The call in the form of a stored list, whose lines crates/velocity_vectors/src/main.rt describes.
     pub fn text(&self) -> String {
         let mut text = String::new();
         for (start, numbers) in [(0, &self.request), (self.request.len(), &self.neighbours)] {

@@ -3,7 +3,7 @@
 //!
 //!     sample SEED FOLDER
 //!
-//! writes a file for each kind of input. crates/velocity_examples/src/main.rt says what its lines are.
+//! writes a file for each kind of input. crates/velocity_vectors/src/main.rt says what its lines are.
 use std::collections::BTreeMap;
 use std::process::ExitCode;
 use std::{env, fs, io};

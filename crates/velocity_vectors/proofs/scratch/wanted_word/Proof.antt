@@ -1,0 +1,57 @@
+-- `velocity_vectors::scratch::wanted_word` meets its contract: each return is what `wantedWord` picks by the tests that led there.
+-- Assumes nothing.
+use borrow.Author.Tests.{lt-ltb, le-ltb, le-leb, lt-leb, eq-eqb, ne-eqb}
+use borrow.Author.Needs.{needs}
+use Rattle.velocity_vectors.specs.Scratch.{wantedWord}
+use Rattle.velocity_vectors.proofs.scratch.wanted_word.Statement.{statement}
+use Rattle.velocity_vectors.proofs.scratch.wanted_word.Tie as tie
+
+word-before-requires : tie.Need-word-before-requires
+word-before-requires c κs = search needs
+
+mul-if1 : tie.Need-mul-if1
+mul-if1 c = search needs
+
+returns : tie.Need-returns
+unfolding wantedWord
+returns c = simp (le-ltb _ _ (c .if1 .taken)) (c .before .word-before .ensures)
+
+mul-if3 : tie.Need-mul-if3
+mul-if3 c = search needs
+
+returns-2 : tie.Need-returns-2
+unfolding wantedWord
+returns-2 c = simp (lt-ltb _ _ (c .before .before .if1 .left), eq-eqb _ _ (c .before .if2 .taken), le-ltb _ _ (c .if3 .taken))
+
+mul-result : tie.Need-mul-result
+mul-result c = search needs
+
+element-copy-out-result : tie.Need-element-copy-out-result
+element-copy-out-result c = search needs
+
+returns-3 : tie.Need-returns-3
+unfolding wantedWord
+returns-3 c = simp (lt-ltb _ _ (c .before .before .before .if1 .left), eq-eqb _ _ (c .before .before .if2 .taken), lt-ltb _ _ (c .before .if3 .left))
+
+returns-4 : tie.Need-returns-4
+unfolding wantedWord
+returns-4 c = simp (lt-ltb _ _ (c .before .before .if1 .left), ne-eqb _ _ (c .before .if2 .left), le-leb _ _ (c .if4 .taken))
+
+returns-5 : tie.Need-returns-5
+unfolding wantedWord
+returns-5 c = simp (lt-ltb _ _ (c .before .before .if1 .left), ne-eqb _ _ (c .before .if2 .left), lt-leb _ _ (c .if4 .left)) (c .before .before .before .word-before .ensures)
+
+pub wanted-word-spec : {M : Type 1} → statement M
+wanted-word-spec =
+    tie.close
+    (tie.spec
+    word-before-requires
+    mul-if1
+    returns
+    mul-if3
+    returns-2
+    mul-result
+    element-copy-out-result
+    returns-3
+    returns-4
+    returns-5)

@@ -1,0 +1,167 @@
+// A case: the numbers of a velocity call, each at its place in document 01's list, the scratch that the
+// call is lent, and the planes that are to stand there where it is answered.
+ghost use Prim.Native.Nat.{_+_, _≤_};
+ghost use Rattle.velocity_vectors.specs.Cases.{Sized};
+use super::lines::Fields;
+use super::lines::Key;
+use vectors::number::from_word;
+
+// There is room for the request's 17 numbers and 64 neighbours, one more than a call takes, and for as
+// many planes. What each field is for is said where a line sets it.
+pub struct Case {
+    pub numbers: [f32; 529],
+    pub length: usize,
+    pub scratch: usize,
+    pub fill: u32,
+    pub planes: [u32; 384],
+}
+
+// The case that a line leaves, and whether the line asked for what a case can't have.
+pub struct Next {
+    pub case: Case,
+    pub malformed: bool,
+}
+
+// A request of +0s, no neighbours and no scratch.
+pub(crate) fn empty() -> Case
+    ensures { λ r. ⌜ Sized r ⌝ }
+{
+    Case {
+        numbers: [0.0; 529],
+        length: 17,
+        scratch: 0,
+        fill: 0,
+        planes: [0; 384],
+    }
+}
+
+fn changed(case: Case) -> Next
+    requires { ⌜ Sized case ⌝ }
+    ensures { λ r. ⌜ Sized (r .case) ⌝ }
+{
+    Next {
+        case,
+        malformed: false,
+    }
+}
+
+fn unchanged(case: Case) -> Next
+    requires { ⌜ Sized case ⌝ }
+    ensures { λ r. ⌜ Sized (r .case) ⌝ }
+{
+    Next {
+        case,
+        malformed: true,
+    }
+}
+
+fn put(case: Case, at: usize, words: [u32; 8], count: usize) -> Case
+    requires { ⌜ Sized case × (at + count ≤ 529) × (count ≤ 8) ⌝ }
+    ensures { λ r. ⌜ Sized r ⌝ }
+{
+    let mut case = case;
+    let mut i = 0;
+    while i < count {
+        case.numbers[at + i] = from_word(words[i]);
+        i += 1;
+    }
+    case
+}
+
+fn lengthened(case: Case, length: usize) -> Case
+    requires { ⌜ Sized case × (length ≤ 529) ⌝ }
+    ensures { λ r. ⌜ Sized r ⌝ }
+{
+    let mut case = case;
+    if length <= case.length {
+        return case;
+    }
+    case.length = length;
+    case
+}
+
+// `at P W ..`: the numbers from place P on are the words W. They may go on past the last number.
+fn with_numbers(case: Case, fields: Fields) -> Next
+    requires { ⌜ Sized case ⌝ }
+    ensures { λ r. ⌜ Sized (r .case) ⌝ }
+{
+    let at = fields.counts[0];
+    let count = fields.worded;
+    let words = fields.words;
+    if case.length < at {
+        return unchanged(case);
+    }
+    if 8 < count {
+        return unchanged(case);
+    }
+    let end = at + count;
+    if 529 < end {
+        return unchanged(case);
+    }
+    changed(lengthened(put(case, at, words, count), end))
+}
+
+// `cut N`: there are N numbers.
+fn with_length(case: Case, fields: Fields) -> Next
+    requires { ⌜ Sized case ⌝ }
+    ensures { λ r. ⌜ Sized (r .case) ⌝ }
+{
+    let mut case = case;
+    let length = fields.counts[0];
+    if length < 17 {
+        return unchanged(case);
+    }
+    if case.length < length {
+        return unchanged(case);
+    }
+    case.length = length;
+    changed(case)
+}
+
+// `scratch N W`: scratch has N numbers, and the one at i is the word W + i.
+fn with_scratch(case: Case, fields: Fields) -> Next
+    requires { ⌜ Sized case ⌝ }
+    ensures { λ r. ⌜ Sized (r .case) ⌝ }
+{
+    let mut case = case;
+    let length = fields.counts[0];
+    if 800 < length {
+        return unchanged(case);
+    }
+    case.scratch = length;
+    case.fill = fields.words[0];
+    changed(case)
+}
+
+// `plane K W W W W W W`: the plane of neighbour K, point and normal.
+fn with_plane(case: Case, fields: Fields) -> Next
+    requires { ⌜ Sized case ⌝ }
+    ensures { λ r. ⌜ Sized (r .case) ⌝ }
+{
+    let mut case = case;
+    let index = fields.counts[0];
+    if 64 <= index {
+        return unchanged(case);
+    }
+    let at = 6 * index;
+    case.planes[at] = fields.words[0];
+    case.planes[at + 1] = fields.words[1];
+    case.planes[at + 2] = fields.words[2];
+    case.planes[at + 3] = fields.words[3];
+    case.planes[at + 4] = fields.words[4];
+    case.planes[at + 5] = fields.words[5];
+    changed(case)
+}
+
+pub(crate) fn change(case: Case, key: Key, fields: Fields) -> Next
+    requires { ⌜ Sized case ⌝ }
+    ensures { λ r. ⌜ Sized (r .case) ⌝ }
+{
+    match key {
+        Key::At => with_numbers(case, fields),
+        Key::Cut => with_length(case, fields),
+        Key::Scratch => with_scratch(case, fields),
+        Key::Plane => with_plane(case, fields),
+        _ => unchanged(case),
+    }
+}

@@ -1,0 +1,33 @@
+// Whether a call came out as its case wants it.
+ghost use mathlib.Core.Path.{_≡_};
+ghost use Prim.Native.Nat.{_≤_};
+ghost use lib.ListN.{length};
+ghost use Rattle.velocity_vectors.specs.Cases.{Sized, Same};
+use super::answers::Answer;
+use super::answers::is_same;
+use super::cases::Case;
+use super::scratch::first_different;
+use vectors::number::to_word;
+
+pub enum Verdict {
+    Same,
+    OtherAnswer,
+    OtherScratch { index: usize, word: u32 },
+}
+
+pub(crate) fn judge(case: Case, wanted: Answer, got: Answer, scratch: &[f32]) -> Verdict
+    requires { ⌜ Sized case × (length (now scratch) ≤ 800) ⌝ }
+    ensures { λ r. ⌜ (r ≡ Verdict.Same → Same case wanted got (now (scratch .entry))) ⌝ }
+{
+    let neighbours = (case.length - 17) / 8;
+    let planes = case.planes;
+    let index = first_different(scratch, wanted.number, neighbours, &planes, case.fill);
+    if index < scratch.len() {
+        let word = to_word(scratch[index]);
+        return Verdict::OtherScratch { index, word };
+    }
+    if is_same(wanted, got) {
+        return Verdict::Same;
+    }
+    Verdict::OtherAnswer
+}
