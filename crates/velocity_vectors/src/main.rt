@@ -1,8 +1,9 @@
-// Runs stored examples of the velocity call and compares: document 01's worked examples, in
-// data/document-01.txt, each branch of an answer, in data/answers.txt, one input for each refusal and each
-// rule on places, in data/refusals.txt, and as many neighbours as there may be, in data/neighbours.txt. It
-// prints a line for each example, its name and `same`, or `DIFFERENT` with what was got, and then how many
-// there were. The answer is compared with its place and its velocity by bits, and scratch number by
+// Runs stored velocity calls and compares. Worked ones: document 01's examples, in data/document-01.txt,
+// each branch of an answer, in data/answers.txt, one input for each refusal and each rule on places, in
+// data/refusals.txt, and as many neighbours as there may be, in data/neighbours.txt. Then what the published
+// Rust gives, a file data/rust-KIND.txt for each kind of input (docs/oracle-velocity.md says how they were
+// made). It prints a line for each example, its name and `same`, or `DIFFERENT` with what was got, and then
+// how many there were. The answer is compared with its place and its velocity by bits, and scratch number by
 // number. A line that can't be read, and a file that can't be read whole, are said where they stand, so
 // that nothing is passed over in silence.
 //
@@ -331,20 +332,40 @@ fn run_file(name: &[u8], tally: Tally) -> Tally {
     run_text(name, &text[..n], tally)
 }
 
-fn main() {
-    let none = Tally {
-        cases: 0,
-        different: 0,
-        malformed: 0,
-    };
-    let worked = run_file(b"document-01.txt", none);
+fn run_worked(tally: Tally) -> Tally {
+    let worked = run_file(b"document-01.txt", tally);
     let answered = run_file(b"answers.txt", worked);
     let refused = run_file(b"refusals.txt", answered);
-    let tally = run_file(b"neighbours.txt", refused);
+    run_file(b"neighbours.txt", refused)
+}
+
+// What the published Rust gives: four kinds of inputs that are taken as they were drawn, ..
+fn run_drawn(tally: Tally) -> Tally {
+    let hangar = run_file(b"rust-hangar.txt", tally);
+    let crowd = run_file(b"rust-crowd.txt", hangar);
+    let grid = run_file(b"rust-grid.txt", crowd);
+    run_file(b"rust-nudged.txt", grid)
+}
+
+// .. and the two that reach the refusals.
+fn run_refused(tally: Tally) -> Tally {
+    run_file(b"rust-damaged.txt", run_file(b"rust-bits.txt", tally))
+}
+
+fn say_tally(tally: Tally) {
     io::print_decimal(STDOUT_FILENO, tally.cases);
     say(b" cases, ");
     io::print_decimal(STDOUT_FILENO, tally.different);
     say(b" different, ");
     io::print_decimal(STDOUT_FILENO, tally.malformed);
     say(b" malformed lines\n");
+}
+
+fn main() {
+    let none = Tally {
+        cases: 0,
+        different: 0,
+        malformed: 0,
+    };
+    say_tally(run_refused(run_drawn(run_worked(none))));
 }

@@ -3,7 +3,7 @@
 //!
 //!     sample SEED FOLDER
 //!
-//! writes a file for each kind of input. crates/velocity_vectors/src/main.rt says what its lines are.
+//! writes a file for each kind of input, rust-KIND.txt. crates/velocity_vectors/src/main.rt says what its lines are.
 use std::collections::BTreeMap;
 use std::process::ExitCode;
 use std::{env, fs, io};
@@ -62,7 +62,7 @@ fn taken(seed: u64, wanted: Kind) -> Vec<String> {
 fn write(seed: u64, folder: &str) -> io::Result<()> {
     for kind in KINDS {
         let cases = taken(seed, kind);
-        let (name, count) = (format!("{kind:?}").to_lowercase(), cases.len());
+        let (name, count) = (format!("rust-{kind:?}.txt").to_lowercase(), cases.len());
         let head = format!(
             "# {count} velocity calls that oracle/sample drew, of the kind {kind:?} and seed {seed}, each \
              with what the published\n# Rust and document 01 make of it. A case's number is the one that it \
@@ -70,10 +70,10 @@ fn write(seed: u64, folder: &str) -> io::Result<()> {
         );
         let text = head + &cases.concat();
         if text.len() > MOST_BYTES {
-            return Err(io::Error::other(format!("{name}.txt would be too long")));
+            return Err(io::Error::other(format!("{name} would be too long")));
         }
-        fs::write(format!("{folder}/{name}.txt"), &text)?;
-        println!("{name}.txt: {count} calls, {} bytes", text.len());
+        fs::write(format!("{folder}/{name}"), &text)?;
+        println!("{name}: {count} calls, {} bytes", text.len());
     }
     Ok(())
 }
