@@ -70,7 +70,7 @@ fn run_text(name: &[u8], text: &[u8], tally: Tally) -> Tally {
     let mut number: u64 = 0;
     let mut at = 0;
     while at < text.len() {
-        let end = at + pairs::line_length(&text[at..]);
+        let end = at + lines::length_until(&text[at..], b'\n');
         number = one_more(number);
         tally = run_line(name, number, &text[at..end], tally);
         at = end + 1;

@@ -13,11 +13,11 @@ unfoldable pub wordBefore : ℕ → ℕ → ℕ
 wordBefore w i = toWord (ofWord ((w + i) % 2 ^ 32))
 
 -- the word at i after the answer `number` on n neighbours: 0 leaves their planes and then as many +0s, 6 and 7 leave +0s only, and 1 to 5 leave what was there; so does every answer past 12 n
-unfoldable pub wantedWord : ℕ → ℕ → List ℕ → ℕ → ℕ → ℕ
+unfoldable pub wantedWord : ℕ → ℕ → List Float → ℕ → ℕ → ℕ
 wantedWord number n planes w i =
     cond (ltb i (12 * n))
     (cond (eqb number 0)
-    (cond (ltb i (6 * n)) (getD planes i 0) 0)
+    (cond (ltb i (6 * n)) (toWord (getD planes i nan)) 0)
     (cond (leb 6 number) 0 (wordBefore w i)))
     (wordBefore w i)
 

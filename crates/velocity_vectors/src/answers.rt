@@ -1,16 +1,18 @@
 // What a velocity call answers, as numbers that can be compared: the velocity by its bits.
 ghost use mathlib.Core.Path.{_≡_};
 ghost use mathlib.Core.Bool.{true};
-use super::lines::Fields;
-use super::lines::Key;
+use super::fields::Fields;
+use super::fields::Key;
 use avoidance::velocity::Reply;
 use vectors::number::to_word;
 
-// Of a refusal the velocity is three +0s, and of an answer that is not relaxed the plane is 0.
+// The plane of an answer that is not relaxed. No line can ask for it as a plane.
+const NO_PLANE: usize = usize::MAX;
+
+// Of a refusal the velocity is three +0s.
 pub struct Answer {
     pub number: usize,
     pub place: usize,
-    pub relaxed: bool,
     pub plane: usize,
     pub x: u32,
     pub y: u32,
@@ -26,60 +28,60 @@ pub(crate) fn refusal(number: usize, place: usize) -> Answer {
     Answer {
         number,
         place,
-        relaxed: false,
-        plane: 0,
+        plane: NO_PLANE,
         x: 0,
         y: 0,
         z: 0,
     }
 }
 
+fn answered(plane: usize, words: [u32; 8]) -> Answer {
+    Answer {
+        number: 0,
+        place: 0,
+        plane,
+        x: words[0],
+        y: words[1],
+        z: words[2],
+    }
+}
+
+fn refused(number: usize, place: usize) -> Wanted {
+    match number {
+        1..=7 => Wanted::Is(refusal(number, place)),
+        _ => Wanted::Malformed,
+    }
+}
+
 // The answer that a line asks for: `free W W W`, `relaxed K W W W` or `refused N P`.
 pub(crate) fn read_wanted(key: Key, fields: Fields) -> Wanted {
-    let count = fields.counts[0];
+    let words = fields.words;
     match key {
-        Key::Free => Wanted::Is(Answer {
-            number: 0,
-            place: 0,
-            relaxed: false,
-            plane: 0,
-            x: fields.words[0],
-            y: fields.words[1],
-            z: fields.words[2],
-        }),
-        Key::Relaxed => Wanted::Is(Answer {
-            number: 0,
-            place: 0,
-            relaxed: true,
-            plane: count,
-            x: fields.words[0],
-            y: fields.words[1],
-            z: fields.words[2],
-        }),
-        Key::Refused => match count {
-            1..=7 => Wanted::Is(refusal(count, fields.counts[1])),
-            _ => Wanted::Malformed,
-        },
+        Key::Free => Wanted::Is(answered(NO_PLANE, words)),
+        Key::Relaxed => Wanted::Is(answered(fields.counts[0], words)),
+        Key::Refused => refused(fields.counts[0], fields.counts[1]),
         _ => Wanted::Malformed,
+    }
+}
+
+fn plane_of(reply: Reply) -> usize {
+    if let Reply::Relaxed { velocity: _, plane } = reply {
+        plane
+    } else {
+        NO_PLANE
     }
 }
 
 pub(crate) fn answer_of(reply: Reply) -> Answer {
     let velocity = reply.velocity();
-    let mut answer = Answer {
+    Answer {
         number: reply.number() as usize,
         place: reply.place(),
-        relaxed: false,
-        plane: 0,
+        plane: plane_of(reply),
         x: to_word(velocity.x),
         y: to_word(velocity.y),
         z: to_word(velocity.z),
-    };
-    if let Reply::Relaxed { velocity: _, plane } = reply {
-        answer.relaxed = true;
-        answer.plane = plane;
     }
-    answer
 }
 
 pub(crate) fn is_same(a: Answer, b: Answer) -> bool
@@ -89,9 +91,6 @@ pub(crate) fn is_same(a: Answer, b: Answer) -> bool
         return false;
     }
     if a.place != b.place {
-        return false;
-    }
-    if a.relaxed != b.relaxed {
         return false;
     }
     if a.plane != b.plane {

@@ -1,19 +1,21 @@
 // A case: the numbers of a velocity call, each at its place in document 01's list, the scratch that the
 // call is lent, and the planes that are to stand there where it is answered.
+ghost use mathlib.Core.Path.{_≡_};
 ghost use Prim.Native.Nat.{_+_, _≤_};
+ghost use lib.ListN.{length};
 ghost use Rattle.velocity_vectors.specs.Cases.{Sized};
-use super::lines::Fields;
-use super::lines::Key;
+use super::fields::Fields;
+use super::fields::Key;
 use vectors::number::from_word;
 
-// There is room for the request's 17 numbers and 64 neighbours, one more than a call takes, and for as
-// many planes. What each field is for is said where a line sets it.
+// There is room for the request's 17 numbers and 64 neighbours, one more than a call takes, and as much for
+// planes. What each field is for is said where a line sets it.
 pub struct Case {
     pub numbers: [f32; 529],
     pub length: usize,
     pub scratch: usize,
     pub fill: u32,
-    pub planes: [u32; 384],
+    pub planes: [f32; 529],
 }
 
 // The case that a line leaves, and whether the line asked for what a case can't have.
@@ -31,7 +33,7 @@ pub(crate) fn empty() -> Case
         length: 17,
         scratch: 0,
         fill: 0,
-        planes: [0; 384],
+        planes: [0.0; 529],
     }
 }
 
@@ -55,17 +57,18 @@ fn unchanged(case: Case) -> Next
     }
 }
 
-fn put(case: Case, at: usize, words: [u32; 8], count: usize) -> Case
-    requires { ⌜ Sized case × (at + count ≤ 529) × (count ≤ 8) ⌝ }
-    ensures { λ r. ⌜ Sized r ⌝ }
+// The numbers with those from `at` on given by words.
+fn put(numbers: [f32; 529], at: usize, words: [u32; 8], count: usize) -> [f32; 529]
+    requires { ⌜ (529 ≡ length numbers) × (at + count ≤ 529) × (count ≤ 8) ⌝ }
+    ensures { λ r. ⌜ 529 ≡ length r ⌝ }
 {
-    let mut case = case;
+    let mut numbers = numbers;
     let mut i = 0;
     while i < count {
-        case.numbers[at + i] = from_word(words[i]);
+        numbers[at + i] = from_word(words[i]);
         i += 1;
     }
-    case
+    numbers
 }
 
 fn lengthened(case: Case, length: usize) -> Case
@@ -85,9 +88,9 @@ fn with_numbers(case: Case, fields: Fields) -> Next
     requires { ⌜ Sized case ⌝ }
     ensures { λ r. ⌜ Sized (r .case) ⌝ }
 {
+    let mut case = case;
     let at = fields.counts[0];
     let count = fields.worded;
-    let words = fields.words;
     if case.length < at {
         return unchanged(case);
     }
@@ -98,7 +101,11 @@ fn with_numbers(case: Case, fields: Fields) -> Next
     if 529 < end {
         return unchanged(case);
     }
-    changed(lengthened(put(case, at, words, count), end))
+    let before = case.numbers;
+    let words = fields.words;
+    let numbers = put(before, at, words, count);
+    case.numbers = numbers;
+    changed(lengthened(case, end))
 }
 
 // `cut N`: there are N numbers.
@@ -143,13 +150,10 @@ fn with_plane(case: Case, fields: Fields) -> Next
     if 64 <= index {
         return unchanged(case);
     }
-    let at = 6 * index;
-    case.planes[at] = fields.words[0];
-    case.planes[at + 1] = fields.words[1];
-    case.planes[at + 2] = fields.words[2];
-    case.planes[at + 3] = fields.words[3];
-    case.planes[at + 4] = fields.words[4];
-    case.planes[at + 5] = fields.words[5];
+    let before = case.planes;
+    let words = fields.words;
+    let planes = put(before, 6 * index, words, 6);
+    case.planes = planes;
     changed(case)
 }
 

@@ -1,11 +1,11 @@
-// Runs stored velocity calls and compares. Worked ones: document 01's examples, in data/document-01.txt,
-// each branch of an answer, in data/answers.txt, one input for each refusal and each rule on places, in
-// data/refusals.txt, and as many neighbours as there may be, in data/neighbours.txt. Then what the published
-// Rust gives, a file data/rust-KIND.txt for each kind of input (docs/oracle-velocity.md says how they were
-// made). It prints a line for each example, its name and `same`, or `DIFFERENT` with what was got, and then
-// how many there were. The answer is compared with its place and its velocity by bits, and scratch number by
-// number. A line that can't be read, and a file that can't be read whole, are said where they stand, so
-// that nothing is passed over in silence.
+// Runs stored velocity calls and compares. Its arguments are the files, of `data/`: the worked ones, which are
+// document 01's examples (document-01.txt), each branch of an answer (answers.txt), one input for each refusal
+// and each rule on places (refusals.txt), and as many neighbours as there may be (neighbours.txt); then what the
+// published Rust gives, a file rust-KIND.txt for each kind of input, of which docs/oracle-velocity.md says how
+// they were made. It prints a line for each example, its name and `same`, or `DIFFERENT` with what was got, and
+// then how many there were. The answer is compared with its place and its velocity by bits, and scratch number
+// by number. A line that can't be read, and a file that can't be read whole, are said where they stand, so that
+// nothing is passed over in silence.
 //
 // An example is a line `case NAME`, lines that change what stands before the first case, and the answer
 // that is wanted:
@@ -23,7 +23,8 @@ ghost use Rattle.velocity_vectors.specs.Cases.{Sized, Kept};
 
 mod answers;
 mod cases;
-mod lines;
+mod fields;
+mod report;
 mod scratch;
 mod verdicts;
 
@@ -33,16 +34,11 @@ use avoidance::checks::ReadRequest;
 use avoidance::checks::Request;
 use avoidance::velocity::velocity;
 use cases::Case;
-use libc::STDOUT_FILENO;
-use lines::Fields;
-use lines::Key;
-use verdicts::Verdict;
-
-struct Tally {
-    cases: u64,
-    different: u64,
-    malformed: u64,
-}
+use fields::Fields;
+use fields::Key;
+use report::Tally;
+use report::one_more;
+use report::say;
 
 // What the lines so far have come to. A case starts from `standard`, which is what stood before the first
 // one, and is open until its answer.
@@ -55,37 +51,8 @@ struct State {
     tally: Tally,
 }
 
-fn say(text: &[u8]) {
-    io::write_all(STDOUT_FILENO, text);
-}
-
-fn say_word(word: u32) {
-    io::print_hex(STDOUT_FILENO, word as u64, 8);
-}
-
-fn say_number(number: usize) {
-    io::print_decimal(STDOUT_FILENO, number as u64);
-}
-
-fn say_answer(answer: Answer) {
-    say_number(answer.number);
-    say(b" at ");
-    say_number(answer.place);
-    if answer.relaxed {
-        say(b", relaxed from ");
-        say_number(answer.plane);
-    }
-    say(b", velocity ");
-    say_word(answer.x);
-    say(b" ");
-    say_word(answer.y);
-    say(b" ");
-    say_word(answer.z);
-}
-
-// A count that is full stays so: no list is that long.
-fn one_more(count: u64) -> u64 {
-    if count < u64::MAX { count + 1 } else { count }
+fn answer_to(request: Request, neighbours: &[f32], scratch: &mut [f32]) -> Answer {
+    answers::answer_of(velocity(request, neighbours, scratch))
 }
 
 fn call(numbers: &[f32], scratch: &mut [f32]) -> Answer
@@ -94,32 +61,7 @@ fn call(numbers: &[f32], scratch: &mut [f32]) -> Answer
     let ReadRequest::Is(request) = Request::read(&numbers[0..17]) else {
         return answers::refusal(255, 0);
     };
-    answers::answer_of(velocity(request, &numbers[17..], scratch))
-}
-
-fn say_verdict(verdict: Verdict, got: Answer) -> bool {
-    match verdict {
-        Verdict::Same => {
-            say(b"same\n");
-            true
-        }
-        Verdict::OtherAnswer => {
-            say(b"DIFFERENT, got ");
-            say_answer(got);
-            say(b"\n");
-            false
-        }
-        Verdict::OtherScratch { index, word } => {
-            say(b"DIFFERENT, got ");
-            say_answer(got);
-            say(b", scratch ");
-            say_number(index);
-            say(b" is ");
-            say_word(word);
-            say(b"\n");
-            false
-        }
-    }
+    answer_to(request, &numbers[17..], scratch)
 }
 
 // Runs a case on the scratch that is lent to it.
@@ -130,7 +72,7 @@ fn run_in(scratch: &mut [f32], case: Case, wanted: Answer) -> bool
     let length = case.length;
     scratch::fill_with(scratch, case.fill);
     let got = call(&numbers[0..length], scratch);
-    say_verdict(verdicts::judge(case, wanted, got, scratch), got)
+    report::say_verdict(verdicts::judge(case, wanted, got, scratch), got)
 }
 
 fn run(case: Case, wanted: Answer) -> bool
@@ -142,19 +84,6 @@ fn run(case: Case, wanted: Answer) -> bool
     run_in(&mut space[0..size], case, wanted)
 }
 
-fn counted(tally: Tally, same: bool) -> Tally {
-    let different = if same {
-        tally.different
-    } else {
-        one_more(tally.different)
-    };
-    Tally {
-        cases: one_more(tally.cases),
-        different,
-        malformed: tally.malformed,
-    }
-}
-
 // A case with no answer is different.
 fn close(state: State) -> State
     requires { ⌜ Kept state ⌝ }
@@ -163,7 +92,7 @@ fn close(state: State) -> State
     let mut state = state;
     if state.open {
         say(b"NO ANSWER\n");
-        let tally = counted(state.tally, false);
+        let tally = report::counted(state.tally, false);
         state.tally = tally;
         state.open = false;
     }
@@ -194,8 +123,16 @@ fn start(name: &[u8], state: State) -> State
     let standard = state.standard;
     state.case = standard;
     state.open = true;
-    say(name);
-    say(b": ");
+    report::say_name(name);
+    state
+}
+
+fn malformed(state: State) -> State
+    requires { ⌜ Kept state ⌝ }
+    ensures { λ r. ⌜ Kept r ⌝ }
+{
+    let mut state = state;
+    state.malformed = true;
     state
 }
 
@@ -204,14 +141,12 @@ fn answer(wanted: Answer, state: State) -> State
     ensures { λ r. ⌜ Kept r ⌝ }
 {
     let mut state = state;
-    if state.open {
-        let case = state.case;
-        let tally = counted(state.tally, run(case, wanted));
-        state.tally = tally;
-        state.open = false;
-    } else {
-        state.malformed = true;
+    if !state.open {
+        return malformed(state);
     }
+    let tally = report::counted(state.tally, run(state.case, wanted));
+    state.tally = tally;
+    state.open = false;
     state
 }
 
@@ -226,29 +161,21 @@ fn change(key: Key, fields: Fields, state: State) -> State
 {
     let mut state = state;
     if is_over(state) {
-        state.malformed = true;
-        return state;
+        return malformed(state);
     }
-    let case = state.case;
-    let next = cases::change(case, key, fields);
+    let next = cases::change(state.case, key, fields);
     let changed = next.case;
     state.case = changed;
     state.malformed = next.malformed;
     state
 }
 
-fn run_key(key: Key, text: &[u8], state: State) -> State
+fn run_fields(key: Key, fields: Fields, state: State) -> State
     requires { ⌜ Kept state ⌝ }
     ensures { λ r. ⌜ Kept r ⌝ }
 {
-    if let Key::Case = key {
-        return start(text, state);
-    }
-    let fields = lines::read_fields(text);
-    if !lines::is_formed(key, fields) {
-        let mut state = state;
-        state.malformed = true;
-        return state;
+    if !fields::is_formed(key, fields) {
+        return malformed(state);
     }
     match answers::read_wanted(key, fields) {
         Wanted::Is(wanted) => answer(wanted, state),
@@ -256,19 +183,29 @@ fn run_key(key: Key, text: &[u8], state: State) -> State
     }
 }
 
-// In a case it is said on the case's line.
-fn say_malformed(name: &[u8], number: u64, open: bool) {
-    if !open {
-        say(name);
-        say(b": ");
-    }
-    say(b"malformed line ");
-    io::print_decimal(STDOUT_FILENO, number);
-    if open {
-        say(b", ");
+fn run_key(key: Key, text: &[u8], state: State) -> State
+    requires { ⌜ Kept state ⌝ }
+    ensures { λ r. ⌜ Kept r ⌝ }
+{
+    if let Key::Case = key {
+        start(text, state)
     } else {
-        say(b"\n");
+        run_fields(key, fields::read_fields(text), state)
     }
+}
+
+// Says that a line is malformed.
+fn said(name: &[u8], number: u64, state: State) -> State
+    requires { ⌜ Kept state ⌝ }
+    ensures { λ r. ⌜ Kept r ⌝ }
+{
+    let mut state = state;
+    report::say_malformed(name, number);
+    let mut tally = state.tally;
+    tally.malformed = one_more(tally.malformed);
+    state.tally = tally;
+    state.malformed = false;
+    state
 }
 
 fn run_line(name: &[u8], number: u64, text: &[u8], state: State) -> State
@@ -278,26 +215,30 @@ fn run_line(name: &[u8], number: u64, text: &[u8], state: State) -> State
     if lines::is_comment(text) {
         return state;
     }
-    let mut state = run_key(lines::read_key(text), lines::after_key(text), state);
+    let state = run_key(fields::read_key(text), lines::after_key(text), state);
     if state.malformed {
-        say_malformed(name, number, state.open);
-        let mut tally = state.tally;
-        tally.malformed = one_more(tally.malformed);
-        state.tally = tally;
-        state.malformed = false;
+        said(name, number, state)
+    } else {
+        state
     }
-    state
 }
 
-fn run_text(name: &[u8], text: &[u8], tally: Tally) -> Tally {
-    let mut state = State {
-        standard: cases::empty(),
-        case: cases::empty(),
+fn unstarted(tally: Tally) -> State
+    ensures { λ r. ⌜ Kept r ⌝ }
+{
+    let empty = cases::empty();
+    State {
+        standard: empty,
+        case: empty,
         started: false,
         open: false,
         malformed: false,
         tally,
-    };
+    }
+}
+
+fn run_text(name: &[u8], text: &[u8], tally: Tally) -> Tally {
+    let mut state = unstarted(tally);
     let mut number: u64 = 0;
     let mut at = 0;
     while at < text.len() {
@@ -310,55 +251,50 @@ fn run_text(name: &[u8], text: &[u8], tally: Tally) -> Tally {
     last.tally
 }
 
-fn run_file(name: &[u8], tally: Tally) -> Tally {
-    let file = os::open_read(name);
-    if file < 0 {
-        os::fail(name);
-        say(name);
-        say(b": can't be opened\n");
-        return tally;
-    }
-    let mut text = io::large_buffer();
-    let n = io::read_full(file, &mut text);
-    // One more read answers 0 only where the whole file was read: it fails where one before it did.
+// Whether a file was not read whole: one more read answers 0 only where it was, and fails where one before it did.
+fn has_more(file: i32) -> bool {
     let mut next = [0u8; 1];
     let more = libc::read(file, &mut next);
     libc::close(file);
-    if more != 0 {
-        say(name);
-        say(b": can't be read, or has more than 65536 bytes\n");
+    more != 0
+}
+
+fn run_opened(name: &[u8], file: i32, tally: Tally) -> Tally {
+    let mut text = io::large_buffer();
+    let n = io::read_full(file, &mut text);
+    if has_more(file) {
+        report::say_unread(name);
         return tally;
     }
     run_text(name, &text[..n], tally)
 }
 
-fn run_worked(tally: Tally) -> Tally {
-    let worked = run_file(b"document-01.txt", tally);
-    let answered = run_file(b"answers.txt", worked);
-    let refused = run_file(b"refusals.txt", answered);
-    run_file(b"neighbours.txt", refused)
+fn run_file(name: &[u8], tally: Tally) -> Tally {
+    let file = os::open_read(name);
+    if file < 0 {
+        os::fail(name);
+        report::say_unread(name);
+        return tally;
+    }
+    run_opened(name, file, tally)
 }
 
-// What the published Rust gives: four kinds of inputs that are taken as they were drawn, ..
-fn run_drawn(tally: Tally) -> Tally {
-    let hangar = run_file(b"rust-hangar.txt", tally);
-    let crowd = run_file(b"rust-crowd.txt", hangar);
-    let grid = run_file(b"rust-grid.txt", crowd);
-    run_file(b"rust-nudged.txt", grid)
+// An argument that is too long for a name is read as an empty one, which no file has.
+fn run_argument(index: usize, tally: Tally) -> Tally {
+    let mut name = [0u8; 64];
+    let n = os::arg(index, &mut name);
+    run_file(&name[..n], tally)
 }
 
-// .. and the two that reach the refusals.
-fn run_refused(tally: Tally) -> Tally {
-    run_file(b"rust-damaged.txt", run_file(b"rust-bits.txt", tally))
-}
-
-fn say_tally(tally: Tally) {
-    io::print_decimal(STDOUT_FILENO, tally.cases);
-    say(b" cases, ");
-    io::print_decimal(STDOUT_FILENO, tally.different);
-    say(b" different, ");
-    io::print_decimal(STDOUT_FILENO, tally.malformed);
-    say(b" malformed lines\n");
+fn run_arguments(tally: Tally) -> Tally {
+    let mut tally = tally;
+    let count = os::arg_count();
+    let mut index = 1;
+    while index < count {
+        tally = run_argument(index, tally);
+        index += 1;
+    }
+    tally
 }
 
 fn main() {
@@ -367,5 +303,5 @@ fn main() {
         different: 0,
         malformed: 0,
     };
-    say_tally(run_refused(run_drawn(run_worked(none))));
+    report::say_tally(run_arguments(none));
 }

@@ -37,7 +37,7 @@ fn word_before(fill: u32, index: usize) -> u32
 fn wanted_word(
     number: usize,
     neighbours: usize,
-    planes: &[u32; 384],
+    planes: &[f32; 529],
     fill: u32,
     index: usize,
 ) -> u32
@@ -52,7 +52,7 @@ fn wanted_word(
         if 6 * neighbours <= index {
             return 0;
         }
-        return planes[index];
+        return to_word(planes[index]);
     }
     if 6 <= number {
         return 0;
@@ -65,7 +65,7 @@ pub(crate) fn first_different(
     scratch: &[f32],
     number: usize,
     neighbours: usize,
-    planes: &[u32; 384],
+    planes: &[f32; 529],
     fill: u32,
 ) -> usize
     requires { ⌜ (length (now scratch) ≤ 800) × (neighbours ≤ 64) ⌝ }

@@ -7,12 +7,11 @@ use super::answers::Answer;
 use super::answers::is_same;
 use super::cases::Case;
 use super::scratch::first_different;
-use vectors::number::to_word;
 
+// What is different is the answer, or the number of scratch at an index: where scratch is as wanted, its length.
 pub enum Verdict {
     Same,
-    OtherAnswer,
-    OtherScratch { index: usize, word: u32 },
+    Different(usize),
 }
 
 pub(crate) fn judge(case: Case, wanted: Answer, got: Answer, scratch: &[f32]) -> Verdict
@@ -23,11 +22,10 @@ pub(crate) fn judge(case: Case, wanted: Answer, got: Answer, scratch: &[f32]) ->
     let planes = case.planes;
     let index = first_different(scratch, wanted.number, neighbours, &planes, case.fill);
     if index < scratch.len() {
-        let word = to_word(scratch[index]);
-        return Verdict::OtherScratch { index, word };
+        return Verdict::Different(index);
     }
     if is_same(wanted, got) {
         return Verdict::Same;
     }
-    Verdict::OtherAnswer
+    Verdict::Different(index)
 }

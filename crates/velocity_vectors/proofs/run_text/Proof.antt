@@ -14,14 +14,11 @@ Inv-loop name text state₀ number₀ at₀ state number at = (at ≤ length tex
 abbrev μ-loop : tie.MeasureT-loop
 μ-loop name text state₀ number₀ at₀ state number at = length text + 1 - at
 
-empty-requires : tie.Need-empty-requires Inv-loop μ-loop
-empty-requires c κs = search needs
+unstarted-requires : tie.Need-unstarted-requires Inv-loop μ-loop
+unstarted-requires c κs = search needs
 
-empty-requires-2 : tie.Need-empty-requires-2 Inv-loop μ-loop
-empty-requires-2 c κs = search needs
-
-end-within : (c : tie.After-length-until Inv-loop μ-loop) → c .before .before .before .loop .at + c .length-until .result ≤ length (c .before .before .before .before .before .before .before .before .args .text .now)
-end-within c = omega (arith, c .length-until .ensures, c .before .length-until-arg .given .2)
+end-within : (c : tie.After-length-until Inv-loop μ-loop) → c .before .before .before .loop .at + c .length-until .result ≤ length (c .before .before .before .before .before .before .before .args .text .now)
+end-within c = omega (arith, c .length-until .ensures .1, c .before .length-until-arg .given .2)
 
 loop-holds : tie.Need-loop-holds Inv-loop μ-loop
 loop-holds c = search needs
@@ -59,7 +56,7 @@ run-line-requires c κs = search needs
 add-at : tie.Need-add-at Inv-loop μ-loop
 add-at c =
     let at-line = c .before .before .before in
-    omega (arith, end-within at-line, at-line .before .before .before .before .before .before .before .before .good .1 .0)
+    omega (arith, end-within at-line, at-line .before .before .before .before .before .before .before .good .1 .0)
 
 loop-less : tie.Need-loop-less Inv-loop μ-loop
 loop-less c = omega (arith, end-within (c .before .before .before))
@@ -79,8 +76,7 @@ run-text-spec =
     (tie.spec
     Inv-loop
     μ-loop
-    empty-requires
-    empty-requires-2
+    unstarted-requires
     loop-holds
     sub-length-until
     part-length-until-start

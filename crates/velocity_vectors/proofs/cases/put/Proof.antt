@@ -1,17 +1,17 @@
--- `velocity_vectors::cases::put` keeps what a case keeps to. The measure is the words that are left.
+-- `velocity_vectors::cases::put` keeps how many numbers there are. The measure is the words that are left.
 -- Assumes nothing.
 use Prim.Native.Nat.{_-_, _≤_}
-use lib.ListN.{length-set}
+use mathlib.Core.Path.{_≡_}
+use lib.ListN.{length, length-set}
 use borrow.Author.Needs.{needs}
-use Rattle.velocity_vectors.specs.Cases.{Sized}
 use Rattle.velocity_vectors.proofs.cases.put.Statement.{statement}
 use Rattle.velocity_vectors.proofs.cases.put.Tie as tie
 
 abbrev Inv-loop : tie.InvT-loop
-Inv-loop at count words case₀ i₀ case i = (i ≤ count) × Sized case
+Inv-loop at count words numbers₀ i₀ numbers i = (i ≤ count) × (529 ≡ length numbers)
 
 abbrev μ-loop : tie.MeasureT-loop
-μ-loop at count words case₀ i₀ case i = count - i
+μ-loop at count words numbers₀ i₀ numbers i = count - i
 
 loop-holds : tie.Need-loop-holds Inv-loop μ-loop
 loop-holds c = search needs
@@ -25,14 +25,14 @@ array-read-from-word c = search needs
 from-word-requires : tie.Need-from-word-requires Inv-loop μ-loop
 from-word-requires c κs = search needs
 
-add-case : tie.Need-add-case Inv-loop μ-loop
-add-case c = search needs
+add-numbers : tie.Need-add-numbers Inv-loop μ-loop
+add-numbers c = search needs
 
-mul-case : tie.Need-mul-case Inv-loop μ-loop
-mul-case c = search needs
+mul-numbers : tie.Need-mul-numbers Inv-loop μ-loop
+mul-numbers c = search needs
 
-element-write-case : tie.Need-element-write-case Inv-loop μ-loop
-element-write-case c = search needs
+array-write-numbers : tie.Need-array-write-numbers Inv-loop μ-loop
+array-write-numbers c = search needs
 
 add-i : tie.Need-add-i Inv-loop μ-loop
 add-i c = search needs
@@ -56,9 +56,9 @@ put-spec =
     mul-from-word
     array-read-from-word
     from-word-requires
-    add-case
-    mul-case
-    element-write-case
+    add-numbers
+    mul-numbers
+    array-write-numbers
     add-i
     loop-less
     loop-again

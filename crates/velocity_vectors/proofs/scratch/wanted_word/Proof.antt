@@ -23,15 +23,22 @@ returns-2 : tie.Need-returns-2
 unfolding wantedWord
 returns-2 c = simp (lt-ltb _ _ (c .before .before .if1 .left), eq-eqb _ _ (c .before .if2 .taken), le-ltb _ _ (c .if3 .taken))
 
-mul-result : tie.Need-mul-result
-mul-result c = search needs
+mul-to-word : tie.Need-mul-to-word
+mul-to-word c = search needs
 
-element-copy-out-result : tie.Need-element-copy-out-result
-element-copy-out-result c = search needs
+element-copy-out-to-word : tie.Need-element-copy-out-to-word
+element-copy-out-to-word c = search needs
+
+to-word-requires : tie.Need-to-word-requires
+to-word-requires c κs = search needs
 
 returns-3 : tie.Need-returns-3
 unfolding wantedWord
-returns-3 c = simp (lt-ltb _ _ (c .before .before .before .if1 .left), eq-eqb _ _ (c .before .before .if2 .taken), lt-ltb _ _ (c .before .if3 .left))
+returns-3 c =
+    let at-if3 = c .before .before in
+    simp
+    (lt-ltb _ _ (at-if3 .before .before .if1 .left), eq-eqb _ _ (at-if3 .before .if2 .taken), lt-ltb _ _ (at-if3 .if3 .left))
+    (c .to-word .ensures)
 
 returns-4 : tie.Need-returns-4
 unfolding wantedWord
@@ -50,8 +57,9 @@ wanted-word-spec =
     returns
     mul-if3
     returns-2
-    mul-result
-    element-copy-out-result
+    mul-to-word
+    element-copy-out-to-word
+    to-word-requires
     returns-3
     returns-4
     returns-5)

@@ -16,15 +16,6 @@ sub-neighbours c = search needs
 first-different-requires : tie.Need-first-different-requires
 first-different-requires c κs = search needs
 
-mul-to-word : tie.Need-mul-to-word
-mul-to-word c = search needs
-
-shared-slice-read-to-word : tie.Need-shared-slice-read-to-word
-shared-slice-read-to-word c = search needs
-
-to-word-requires : tie.Need-to-word-requires
-to-word-requires c κs = search needs
-
 returns : tie.Need-returns
 returns c = λ e. never cc
 
@@ -48,9 +39,6 @@ judge-spec =
     (tie.spec
     sub-neighbours
     first-different-requires
-    mul-to-word
-    shared-slice-read-to-word
-    to-word-requires
     returns
     is-same-requires
     returns-2

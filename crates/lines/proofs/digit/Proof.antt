@@ -1,10 +1,10 @@
--- `root_vectors::pairs::digit` meets its contract: each return is what `digitOf` picks by the tests that led there.
+-- `lines::digit` meets its contract: each return is what `digitOf` picks by the tests that led there.
 -- Assumes nothing.
 use borrow.Author.Needs.{needs}
 use borrow.Author.Tests.{lt-ltb, le-ltb, le-leb, lt-leb}
-use Rattle.root_vectors.specs.Pairs.{digitOf}
-use Rattle.root_vectors.proofs.pairs.digit.Statement.{statement}
-use Rattle.root_vectors.proofs.pairs.digit.Tie as tie
+use Rattle.lines.specs.Lines.{digitOf}
+use Rattle.lines.proofs.digit.Statement.{statement}
+use Rattle.lines.proofs.digit.Tie as tie
 
 cast-result : tie.Need-cast-result
 cast-result c = search needs

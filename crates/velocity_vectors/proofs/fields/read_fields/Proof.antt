@@ -1,11 +1,11 @@
--- `velocity_vectors::lines::read_fields` is safe and ends. A field ends within the text, so that the next starts at most one past it. The measure is what is left of the text.
+-- `velocity_vectors::fields::read_fields` is safe and ends. A field ends within the text, so that the next starts at most one past it. The measure is what is left of the text.
 -- Assumes nothing.
 use Prim.Native.Nat.{_+_, _-_, _≤_}
 use native.Mathlib.Omega.{arith}
 use lib.ListN.{length}
 use borrow.Author.Needs.{needs}
-use Rattle.velocity_vectors.proofs.lines.read_fields.Statement.{statement}
-use Rattle.velocity_vectors.proofs.lines.read_fields.Tie as tie
+use Rattle.velocity_vectors.proofs.fields.read_fields.Statement.{statement}
+use Rattle.velocity_vectors.proofs.fields.read_fields.Tie as tie
 
 abbrev Inv-loop : tie.InvT-loop
 Inv-loop text fields₀ at₀ fields at = at ≤ length text + 1
@@ -14,7 +14,7 @@ abbrev μ-loop : tie.MeasureT-loop
 μ-loop text fields₀ at₀ fields at = length text + 1 - at
 
 end-within : (c : tie.After-length-until Inv-loop μ-loop) → c .before .before .before .loop .at + c .length-until .result ≤ length (c .before .before .before .before .before .args .text .now)
-end-within c = omega (arith, c .length-until .ensures, c .before .length-until-arg .given .2)
+end-within c = omega (arith, c .length-until .ensures .1, c .before .length-until-arg .given .2)
 
 loop-holds : tie.Need-loop-holds Inv-loop μ-loop
 loop-holds c = search needs

@@ -1,0 +1,2 @@
+-- What the contracts of `src/lib.rt` cite.
+pub mod Lines

@@ -1,0 +1,139 @@
+// Lines of a stored list, as the programs that run one read them: where a line or a field ends, a comment, a key,
+// and the two kinds of number that a field can be. The definitions are in `specs/Lines.antt`.
+ghost use mathlib.Core.Path.{_≡_};
+ghost use Prim.Native.Nat.{_≤_, _<_};
+ghost use lib.ListN.{length};
+ghost use Rattle.lines.specs.Lines.{digitOf, spelledIn, wordOf, countOf, lengthUntil, isComment, packedAfter, keyOf, afterKey};
+
+pub enum Number {
+    Is(u32),
+    Malformed,
+}
+
+// How many bytes stand before the first `byte`.
+pub fn length_until(text: &[u8], byte: u8) -> usize
+    ensures { λ r. ⌜ r ≡ lengthUntil byte (now (text .entry)) ⌝ }
+    ensures within { λ r. ⌜ r ≤ length (now (text .entry)) ⌝ }
+{
+    let mut n = 0;
+    while n < text.len() {
+        if text[n] == byte {
+            return n;
+        }
+        n += 1;
+    }
+    n
+}
+
+// Whether a line is a comment: it is empty, or starts with `#`.
+pub fn is_comment(line: &[u8]) -> bool
+    ensures { λ r. ⌜ r ≡ isComment (now (line .entry)) ⌝ }
+{
+    if line.len() == 0 {
+        return true;
+    }
+    line[0] == b'#'
+}
+
+// The number whose bytes are a 1 and then `bytes`.
+fn packed(bytes: &[u8]) -> u64
+    requires { ⌜ length (now bytes) ≤ 7 ⌝ }
+    ensures { λ r. ⌜ r ≡ packedAfter 1 (now (bytes .entry)) ⌝ }
+{
+    let mut value: u64 = 1;
+    let mut i = 0;
+    while i < bytes.len() {
+        value = value * 256 + wide(bytes[i]);
+        i += 1;
+    }
+    value
+}
+
+fn wide(byte: u8) -> u64
+    ensures { λ r. ⌜ (r ≡ byte) × (r < 256) ⌝ }
+{
+    byte as u64
+}
+
+// The key of a line, what stands before the first space, as a number that a program can match on: its bytes behind
+// a 1, so that no two keys have one number, and 0 for a key of more than seven.
+pub fn key(line: &[u8]) -> u64
+    ensures { λ r. ⌜ r ≡ keyOf (now (line .entry)) ⌝ }
+{
+    let end = length_until(line, b' ');
+    if 7 < end {
+        return 0;
+    }
+    packed(&line[0..end])
+}
+
+// What stands after the key and its space.
+pub fn after_key(line: &[u8]) -> &[u8]
+    ensures { λ r. ⌜ now r ≡ afterKey (now (line .entry)) ⌝ }
+{
+    let end = length_until(line, b' ');
+    if end < line.len() {
+        let start = end + 1;
+        &line[start..]
+    } else {
+        &line[end..]
+    }
+}
+
+// The value of a lower-case hexadecimal digit; 16 where the byte is none.
+fn digit(byte: u8) -> u32
+    ensures { λ r. ⌜ r ≡ digitOf byte ⌝ }
+{
+    if byte < b'0' {
+        16
+    } else if byte <= b'9' {
+        (byte - b'0') as u32
+    } else if byte < b'a' {
+        16
+    } else if byte <= b'f' {
+        (byte - b'a') as u32 + 10
+    } else {
+        16
+    }
+}
+
+// The number that digits spell in a base.
+fn spelled(digits: &[u8], base: u32) -> Number
+    requires { ⌜ (base ≤ 16) × (length (now digits) ≤ 8) ⌝ }
+    ensures { λ r. ⌜ r ≡ spelledIn base 0 (now (digits .entry)) ⌝ }
+{
+    let mut value: u32 = 0;
+    let mut i = 0;
+    while i < digits.len() {
+        let next = digit(digits[i]);
+        if base <= next {
+            return Number::Malformed;
+        }
+        value = value * base + next;
+        i += 1;
+    }
+    Number::Is(value)
+}
+
+// A word is eight hexadecimal digits, lower-case.
+pub fn word(field: &[u8]) -> Number
+    ensures { λ r. ⌜ r ≡ wordOf (now (field .entry)) ⌝ }
+{
+    if field.len() != 8 {
+        return Number::Malformed;
+    }
+    spelled(field, 16)
+}
+
+// A count is one to four decimal digits.
+pub fn count(field: &[u8]) -> Number
+    ensures { λ r. ⌜ r ≡ countOf (now (field .entry)) ⌝ }
+{
+    if field.len() == 0 {
+        return Number::Malformed;
+    }
+    if 4 < field.len() {
+        return Number::Malformed;
+    }
+    spelled(field, 10)
+}
