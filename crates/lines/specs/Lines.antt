@@ -1,11 +1,12 @@
 -- What a line of a stored list says: a comment, or a key with fields after it, a space before each.
 use Prim.Native.Nat.{ℕ, suc, _+_, _-_, _*_}
-use mathlib.Core.Bool.{Bool, true, cond}
+use mathlib.Core.Bool.{Bool, true, false, cond}
 use mathlib.Core.List.{List, [], _∷_}
 use lib.Dec.{eqb, leb, ltb}
-use lib.ListN.{length, getD, take, drop}
+use lib.ListN.{length, getD, set, take, drop}
 use Rattle.lines.specs.declared.Number.{Number}
 use Rattle.lines.specs.declared.Number.the-variants as number
+use Rattle.lines.specs.declared.Fields.{Fields}
 
 -- how many bytes stand before the first b
 unfoldable pub lengthUntil : ℕ → List ℕ → ℕ
@@ -47,3 +48,59 @@ unfoldable pub countOf : List ℕ → Number
 countOf s =
     cond (eqb (length s) 0) number.Malformed
     (cond (ltb 4 (length s)) number.Malformed (spelledIn 10 0 s))
+
+-- parts, of which the first has b before it
+unfoldable pub begunBy : ℕ → List (List ℕ) → List (List ℕ)
+begunBy b [] = (b ∷ []) ∷ []
+begunBy b (p ∷ ps) = (b ∷ p) ∷ ps
+
+-- the parts of s that a space stands between; a space at the end begins none
+unfoldable pub parts : List ℕ → List (List ℕ)
+parts [] = []
+parts (b ∷ s) = cond (eqb b 32) ([] ∷ parts s) (begunBy b (parts s))
+
+unfoldable pub asMalformed : Fields → Fields
+asMalformed f =
+    record { counts = f .counts; counted = f .counted; words = f .words; worded = f .worded; malformed = true }
+
+-- at most two counts, before all words
+unfoldable pub withCount : Fields → Number → Fields
+withCount f number.Malformed = asMalformed f
+withCount f (number.Is n) =
+    cond (ltb 0 (f .worded)) (asMalformed f)
+    (cond (leb 2 (f .counted)) (asMalformed f)
+    (record {
+      counts = set (f .counts) (f .counted) n;
+      counted = f .counted + 1;
+      words = f .words;
+      worded = f .worded;
+      malformed = f .malformed;
+    }))
+
+-- at most eight words
+unfoldable pub withWord : Fields → Number → Fields
+withWord f number.Malformed = asMalformed f
+withWord f (number.Is w) =
+    cond (leb 8 (f .worded)) (asMalformed f)
+    (record {
+      counts = f .counts;
+      counted = f .counted;
+      words = set (f .words) (f .worded) w;
+      worded = f .worded + 1;
+      malformed = f .malformed;
+    })
+
+-- a field of eight bytes is to be a word, and any other a count
+unfoldable pub withField : Fields → List ℕ → Fields
+withField f s = cond (eqb (length s) 8) (withWord f (wordOf s)) (withCount f (countOf s))
+
+unfoldable pub withFields : Fields → List (List ℕ) → Fields
+withFields f [] = f
+withFields f (p ∷ ps) = withFields (withField f p) ps
+
+unfoldable pub noFields : Fields
+noFields = record { counts = 0 ∷ 0 ∷ []; counted = 0; words = 0 ∷ 0 ∷ 0 ∷ 0 ∷ 0 ∷ 0 ∷ 0 ∷ 0 ∷ []; worded = 0; malformed = false }
+
+-- the fields of what stands after a key
+unfoldable pub fieldsOf : List ℕ → Fields
+fieldsOf s = withFields noFields (parts s)

@@ -1,13 +1,22 @@
 // Lines of a stored list, as the programs that run one read them: where a line or a field ends, a comment, a key,
-// and the two kinds of number that a field can be. The definitions are in `specs/Lines.antt`.
+// and the fields after it, each a count or a word. The definitions are in `specs/Lines.antt`.
 ghost use mathlib.Core.Path.{_≡_};
 ghost use Prim.Native.Nat.{_≤_, _<_};
 ghost use lib.ListN.{length};
-ghost use Rattle.lines.specs.Lines.{digitOf, spelledIn, wordOf, countOf, lengthUntil, isComment, packedAfter, keyOf, afterKey};
+ghost use Rattle.lines.specs.Lines.{digitOf, spelledIn, wordOf, countOf, lengthUntil, isComment, packedAfter, keyOf, afterKey, asMalformed, withCount, withWord, withField, noFields, fieldsOf};
 
 pub enum Number {
     Is(u32),
     Malformed,
+}
+
+// The fields of a line. A malformed one keeps the fields that could be read.
+pub struct Fields {
+    pub counts: [usize; 2],
+    pub counted: usize,
+    pub words: [u32; 8],
+    pub worded: usize,
+    pub malformed: bool,
 }
 
 // How many bytes stand before the first `byte`.
@@ -136,4 +145,85 @@ pub fn count(field: &[u8]) -> Number
         return Number::Malformed;
     }
     spelled(field, 10)
+}
+
+fn as_malformed(fields: Fields) -> Fields
+    ensures { λ r. ⌜ r ≡ asMalformed fields ⌝ }
+{
+    let mut fields = fields;
+    fields.malformed = true;
+    fields
+}
+
+// At most two counts, before all words.
+fn with_count(fields: Fields, count: Number) -> Fields
+    ensures { λ r. ⌜ r ≡ withCount fields count ⌝ }
+{
+    let mut fields = fields;
+    let at = fields.counted;
+    let Number::Is(value) = count else {
+        return as_malformed(fields);
+    };
+    if 0 < fields.worded {
+        return as_malformed(fields);
+    }
+    if 2 <= at {
+        return as_malformed(fields);
+    }
+    fields.counts[at] = value as usize;
+    fields.counted = at + 1;
+    fields
+}
+
+// At most eight words.
+fn with_word(fields: Fields, word: Number) -> Fields
+    ensures { λ r. ⌜ r ≡ withWord fields word ⌝ }
+{
+    let mut fields = fields;
+    let at = fields.worded;
+    let Number::Is(value) = word else {
+        return as_malformed(fields);
+    };
+    if 8 <= at {
+        return as_malformed(fields);
+    }
+    fields.words[at] = value;
+    fields.worded = at + 1;
+    fields
+}
+
+// The fields with one more, whose length says what it is.
+fn with_field(fields: Fields, field: &[u8]) -> Fields
+    ensures { λ r. ⌜ r ≡ withField fields (now (field .entry)) ⌝ }
+{
+    if field.len() == 8 {
+        return with_word(fields, word(field));
+    }
+    with_count(fields, count(field))
+}
+
+fn no_fields() -> Fields
+    ensures { λ r. ⌜ r ≡ noFields ⌝ }
+{
+    Fields {
+        counts: [0; 2],
+        counted: 0,
+        words: [0; 8],
+        worded: 0,
+        malformed: false,
+    }
+}
+
+// The fields of what stands after a key, a space between two.
+pub fn read_fields(text: &[u8]) -> Fields
+    ensures { λ r. ⌜ r ≡ fieldsOf (now (text .entry)) ⌝ }
+{
+    let mut fields = no_fields();
+    let mut at = 0;
+    while at < text.len() {
+        let end = at + length_until(&text[at..], b' ');
+        fields = with_field(fields, &text[at..end]);
+        at = end + 1;
+    }
+    fields
 }

@@ -1,9 +1,9 @@
 // What a velocity call answers, as numbers that can be compared: the velocity by its bits.
 ghost use mathlib.Core.Path.{_≡_};
 ghost use mathlib.Core.Bool.{true};
-use super::fields::Fields;
-use super::fields::Key;
+use super::keys::Key;
 use avoidance::velocity::Reply;
+use lines::Fields;
 use vectors::number::to_word;
 
 // The plane of an answer that is not relaxed. No line can ask for it as a plane.

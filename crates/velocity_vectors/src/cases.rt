@@ -4,8 +4,8 @@ ghost use mathlib.Core.Path.{_≡_};
 ghost use Prim.Native.Nat.{_+_, _≤_};
 ghost use lib.ListN.{length};
 ghost use Rattle.velocity_vectors.specs.Cases.{Sized};
-use super::fields::Fields;
-use super::fields::Key;
+use super::keys::Key;
+use lines::Fields;
 use vectors::number::from_word;
 
 // There is room for the request's 17 numbers and 64 neighbours, one more than a call takes, and as much for

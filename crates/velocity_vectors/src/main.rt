@@ -23,7 +23,7 @@ ghost use Rattle.velocity_vectors.specs.Cases.{Sized, Kept};
 
 mod answers;
 mod cases;
-mod fields;
+mod keys;
 mod report;
 mod scratch;
 mod verdicts;
@@ -34,8 +34,8 @@ use avoidance::checks::ReadRequest;
 use avoidance::checks::Request;
 use avoidance::velocity::velocity;
 use cases::Case;
-use fields::Fields;
-use fields::Key;
+use keys::Key;
+use lines::Fields;
 use report::Tally;
 use report::one_more;
 use report::say;
@@ -174,7 +174,7 @@ fn run_fields(key: Key, fields: Fields, state: State) -> State
     requires { ⌜ Kept state ⌝ }
     ensures { λ r. ⌜ Kept r ⌝ }
 {
-    if !fields::is_formed(key, fields) {
+    if !keys::is_formed(key, fields) {
         return malformed(state);
     }
     match answers::read_wanted(key, fields) {
@@ -190,7 +190,7 @@ fn run_key(key: Key, text: &[u8], state: State) -> State
     if let Key::Case = key {
         start(text, state)
     } else {
-        run_fields(key, fields::read_fields(text), state)
+        run_fields(key, lines::read_fields(text), state)
     }
 }
 
@@ -215,7 +215,7 @@ fn run_line(name: &[u8], number: u64, text: &[u8], state: State) -> State
     if lines::is_comment(text) {
         return state;
     }
-    let state = run_key(fields::read_key(text), lines::after_key(text), state);
+    let state = run_key(keys::read_key(text), lines::after_key(text), state);
     if state.malformed {
         said(name, number, state)
     } else {
