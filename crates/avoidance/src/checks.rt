@@ -224,7 +224,7 @@ fn first_of(asked: Asked, request: Request, neighbours: &[f32]) -> Found
     first_bad(asked, 17, neighbours)
 }
 
-fn bad_fallback(fallback: Vec3) -> bool
+pub fn bad_fallback(fallback: Vec3) -> bool
     ensures { λ r. ⌜ r ≡ badFallback fallback ⌝ }
 {
     let square = fallback.dot(fallback);

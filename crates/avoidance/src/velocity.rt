@@ -87,7 +87,7 @@ impl Reply {
     }
 }
 
-fn is_finite_vector(v: Vec3) -> bool
+pub fn is_finite_vector(v: Vec3) -> bool
     ensures { λ r. ⌜ r ≡ finiteVec v ⌝ }
 {
     if is_finite(v.x) {

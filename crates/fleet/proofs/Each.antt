@@ -1,0 +1,40 @@
+-- Laws on two lists taken element by element.
+use mathlib.Core.Path.{_≡_, refl, ap}
+use mathlib.Core.List.{List, [], _∷_, _++_, append-assoc, append-nil}
+use Prim.Native.Nat.{ℕ, zero, suc, _+_, _≤_, _<_}
+use native.Mathlib.Nat.{not-suc-le-zero, le-of-suc-le-suc}
+use native.Mathlib.Numerals.{add-one}
+use lib.ListN.{length, getD, take, drop, set, drop-of-length-le}
+use lib.Seq.{take-suc-set, take-all}
+use Rattle.fleet.specs.Tick.{each}
+
+-- what stands of the results, and then those that are left
+abbrev pub soFar : {A B C : Type 0} → (A → B → C) → ℕ → List C → List A → List B → List C
+soFar f i out xs ys = take i out ++ each f (drop i xs) (drop i ys)
+
+module _ {A B C : Type 0} (f : A → B → C) where
+  -- the first n results are those of the first n
+  pub each-take : (n : ℕ) (xs : List A) (ys : List B) → take n (each f xs ys) ≡ each f (take n xs) ys
+  unfolding each
+  each-take zero xs ys = refl
+  each-take (suc n) [] ys = refl
+  each-take (suc n) (x ∷ xs) [] = refl
+  each-take (suc n) (x ∷ xs) (y ∷ ys) = ap (λ (l : List C). f x y ∷ l) (each-take n xs ys)
+
+  pub each-drop : (i : ℕ) (xs : List A) (ys : List B) (d : A) (e : B) → i < length xs → i < length ys
+      → each f (drop i xs) (drop i ys) ≡ f (getD xs i d) (getD ys i e) ∷ each f (drop (suc i) xs) (drop (suc i) ys)
+  unfolding each
+  each-drop i [] ys d e h k = absurd (not-suc-le-zero h)
+  each-drop i (x ∷ xs) [] d e h k = absurd (not-suc-le-zero k)
+  each-drop zero (x ∷ xs) (y ∷ ys) d e h k = refl
+  each-drop (suc i) (x ∷ xs) (y ∷ ys) d e h k = each-drop i xs ys d e (le-of-suc-le-suc h) (le-of-suc-le-suc k)
+
+  pub each-step : (i : ℕ) (out : List C) (xs : List A) (ys : List B) (d : A) (e : B) → i < length out → i < length xs → i < length ys
+      → soFar f (i + 1) (set out i (f (getD xs i d) (getD ys i e))) xs ys ≡ soFar f i out xs ys
+  each-step i out xs ys d e ho hx hy =
+      rw (add-one i, take-suc-set out i (f (getD xs i d) (getD ys i e)) ho, each-drop i xs ys d e hx hy)
+      (append-assoc (take i out) (f (getD xs i d) (getD ys i e) ∷ []) (each f (drop (suc i) xs) (drop (suc i) ys)))
+
+  pub each-end : (i : ℕ) (out : List C) (xs : List A) (ys : List B) → length out ≤ i → length xs ≤ i → soFar f i out xs ys ≡ out
+  unfolding each
+  each-end i out xs ys ho hx = rw (take-all i out ho, drop-of-length-le xs hx) (append-nil out)

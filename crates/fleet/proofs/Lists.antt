@@ -1,0 +1,41 @@
+-- Laws on lists: an element that is there, the first elements, and a list that is filled or written element by element.
+use mathlib.Core.Path.{_≡_, refl, sym, ap, _∙_}
+use mathlib.Core.List.{List, [], _∷_, _++_, append-assoc, append-nil}
+use Prim.Native.Nat.{ℕ, zero, suc, _+_, _-_, _≤_, _<_}
+use native.Mathlib.Nat.{not-suc-le-zero, le-of-suc-le-suc}
+use native.Mathlib.Numerals.{add-one}
+use native.Mathlib.Omega.{arith}
+use lib.ListN.{length, getD, take, drop, set, replicate, take-append-drop}
+use lib.Seq.{take-suc-set, take-all, take-append-seam, append-snoc}
+
+-- what stands for an element past the end does not show in one that is there
+pub getD-there : {A : Type 0} (l : List A) (i : ℕ) (d e : A) → i < length l → getD l i d ≡ getD l i e
+getD-there [] i d e h = absurd (not-suc-le-zero h)
+getD-there (x ∷ xs) zero d e h = refl
+getD-there (x ∷ xs) (suc i) d e h = getD-there xs i d e (le-of-suc-le-suc h)
+
+-- as many as there are of the first n are the first n
+pub take-taken : {A : Type 0} (n : ℕ) (l : List A) → take (length (take n l)) l ≡ take n l
+take-taken {A} n l =
+    ap (λ (whole : List A). take (length (take n l)) whole) (sym (take-append-drop n l)) ∙ take-append-seam (take n l) (drop n l)
+
+-- the first elements of a list, and then one that fills it up to n
+abbrev pub filled : {A : Type 0} → ℕ → A → ℕ → List A → List A
+filled n a i l = take i l ++ replicate (n - i) a
+
+pub filled-step : {A : Type 0} (n : ℕ) (a : A) (i : ℕ) (l : List A) → length l ≡ n → i < n → filled n a (i + 1) (set l i a) ≡ filled n a i l
+filled-step n a i l all h =
+    let there : i < length l = omega arith in
+    let left : n - i ≡ suc (n - suc i) = omega arith in
+    rw (add-one i, take-suc-set l i a there, left) (append-assoc (take i l) (a ∷ []) (replicate (n - suc i) a))
+
+pub filled-end : {A : Type 0} (n : ℕ) (a : A) (i : ℕ) (l : List A) → length l ≡ n → n ≤ i → filled n a i l ≡ l
+filled-end n a i l all h =
+    let past : length l ≤ i = omega arith in
+    let left : n - i ≡ 0 = omega arith in
+    rw (take-all i l past, left) (append-nil l)
+
+-- ---- a list written from its start on: what stands before i, and what is still to come
+
+pub written-step : {A : Type 0} (l : List A) (i : ℕ) (a : A) (rest : List A) → i < length l → take (i + 1) (set l i a) ++ rest ≡ take i l ++ a ∷ rest
+written-step l i a rest h = rw (add-one i, take-suc-set l i a h) (append-snoc (take i l) a rest)

@@ -1,0 +1,104 @@
+use mathlib.Core.Path.{_≡_, refl, sym, ap, _∙_, subst}
+use mathlib.Core.Bool.{true, false}
+use mathlib.Core.Logic.{⊎-elim}
+use Prim.Native.Nat.{_-_, _+_, _≤_, _<_}
+use native.Mathlib.Omega.{arith}
+use lib.ListN.{length, take, getD, length-take}
+use lib.Seq.{getD-take}
+use borrow.Author.Tests.{eq-eqb, ne-eqb}
+use Rattle.fleet.specs.declared.plan.Neighbours.{Neighbours}
+use Rattle.fleet.specs.Record.{blank}
+use Rattle.fleet.specs.Plan.{keeps, numbersOf}
+use Rattle.fleet.specs.Neighbours.{withNeighbour}
+use Rattle.fleet.proofs.Lists.{getD-there}
+use Rattle.fleet.proofs.Kept.{wanted, Kept, skipped, added, all-kept}
+use borrow.Author.Needs.{needs}
+use Rattle.fleet.proofs.plan.neighbours_of.Statement.{statement}
+use Rattle.fleet.proofs.plan.neighbours_of.Tie as tie
+
+abbrev Inv-loop : tie.InvT-loop
+Inv-loop rule own index count records kept₀ at₀ kept at = (at ≤ count) × Kept rule own index (take count records) at kept
+
+abbrev μ-loop : tie.MeasureT-loop
+μ-loop rule own index count records kept₀ at₀ kept at = count - at
+
+loop-holds : tie.Need-loop-holds Inv-loop μ-loop
+unfolding numbersOf
+loop-holds c = (omega arith, record { few = omega arith; room = refl; wide = refl; indexed = refl; numbered = refl })
+
+mul-other : tie.Need-mul-other Inv-loop μ-loop
+mul-other c = search needs
+
+array-copy-out-other : tie.Need-array-copy-out-other Inv-loop μ-loop
+array-copy-out-other c = search needs
+
+keeps-requires : tie.Need-keeps-requires Inv-loop μ-loop
+keeps-requires c κs = search needs
+
+with-neighbour-requires : tie.Need-with-neighbour-requires Inv-loop μ-loop
+with-neighbour-requires c κs =
+    let at = c .before .before .before .before .before in
+    omega (arith, at .loop .inv .1 .few, c .before .before .before .before .loop-test .taken, at .before .pre)
+
+add-at : tie.Need-add-at Inv-loop μ-loop
+add-at c = search needs
+
+loop-less : tie.Need-loop-less Inv-loop μ-loop
+loop-less c = search needs
+
+loop-again : tie.Need-loop-again Inv-loop μ-loop
+loop-again c =
+    let at = c .before .before .before in
+    let start = at .before in
+    let rule = start .args .rule in
+    let own = start .args .own in
+    let index = start .args .index in
+    let count = start .args .count in
+    let rs = take count (start .args .t4) in
+    let i = at .loop .at in
+    let inside : i < count = c .before .before .loop-test .taken in
+    let listed : i < length (start .args .t4) = rw (start .good .1 .1 .1 .0 .1 .0 .1) (omega (arith, inside, start .pre)) in
+    let there : i < length rs = rw (length-take count (start .args .t4)) (omega arith) in
+    let small : i < 64 = omega (arith, inside, start .pre) in
+    let same = getD-take count (start .args .t4) i blank inside ∙ getD-there (start .args .t4) i blank _ listed in
+    let Next : Neighbours → Type 0 = λ n. Kept rule own index rs (i + 1) n in
+    let as-it-was : wanted rule own index rs i ≡ false → Next (at .loop .kept) = λ out. skipped rule own index rs i (at .loop .kept) there out (at .loop .inv .1) in (
+      omega arith,
+      ⊎-elim
+          (λ w.
+          let apart = ne-eqb i index (w .0 .taken) in
+          let near : keeps rule own (getD rs i blank) ≡ true = ap (keeps rule own) same ∙ sym (w .1 .ensures) ∙ w .2 .taken in
+          let grown : c .if1 .kept ≡ withNeighbour (at .loop .kept) i (getD rs i blank) = w .4 ∙ w .3 .ensures ∙ ap (withNeighbour (at .loop .kept) i) (sym same) in
+          subst Next (sym grown) (added rule own index rs i (at .loop .kept) there small (rw (apart, near)) (at .loop .inv .1)))
+          (⊎-elim
+          (λ w.
+          let apart = ne-eqb i index (w .0 .taken) in
+          let far : keeps rule own (getD rs i blank) ≡ false = ap (keeps rule own) same ∙ sym (w .1 .ensures) ∙ w .2 .left in
+          subst Next (sym (w .3)) (as-it-was (rw (apart, far))))
+          (λ w. subst Next (sym (w .1)) (as-it-was (rw (eq-eqb i index (w .0 .left))))))
+          (c .if1 .came),
+    )
+
+returns : tie.Need-returns Inv-loop μ-loop
+returns c =
+    let at = c .before in
+    let start = at .before in
+    let rs = take (start .args .count) (start .args .t4) in
+    let past : length rs ≤ at .loop .at = rw (length-take (start .args .count) (start .args .t4)) (omega (arith, c .loop-test .left)) in
+    all-kept (start .args .rule) (start .args .own) (start .args .index) rs (at .loop .at) (at .loop .kept) past (omega (arith, start .pre)) (at .loop .inv .1)
+
+pub neighbours-of-spec : {M : Type 1} → statement M
+neighbours-of-spec =
+    tie.close
+    (tie.spec
+    Inv-loop
+    μ-loop
+    loop-holds
+    mul-other
+    array-copy-out-other
+    keeps-requires
+    with-neighbour-requires
+    add-at
+    loop-less
+    loop-again
+    returns)

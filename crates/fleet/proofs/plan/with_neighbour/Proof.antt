@@ -1,0 +1,34 @@
+use Rattle.fleet.specs.Neighbours.{withNeighbour}
+use borrow.Author.Needs.{needs}
+use Rattle.fleet.proofs.plan.with_neighbour.Statement.{statement}
+use Rattle.fleet.proofs.plan.with_neighbour.Tie as tie
+
+mul-write-agent : tie.Need-mul-write-agent
+mul-write-agent c = search needs
+
+write-agent-requires : tie.Need-write-agent-requires
+write-agent-requires c κs = search needs
+
+mul-out : tie.Need-mul-out
+mul-out c = search needs
+
+element-write-out : tie.Need-element-write-out
+element-write-out c = search needs
+
+add-out : tie.Need-add-out
+add-out c = search needs
+
+returns : tie.Need-returns
+unfolding withNeighbour
+returns c = simp (← c .write-agent .ensures)
+
+pub with-neighbour-spec : {M : Type 1} → statement M
+with-neighbour-spec =
+    tie.close
+    (tie.spec
+    mul-write-agent
+    write-agent-requires
+    mul-out
+    element-write-out
+    add-out
+    returns)

@@ -1,0 +1,24 @@
+-- What plan's private functions promise each other of the list of neighbours.
+use Prim.Native.Nat.{ℕ, _+_, _*_, _≤_}
+use mathlib.Core.Path.{_≡_}
+use mathlib.Core.List.{List}
+use lib.ListN.{length, take, set}
+use lib.Seq.{sets}
+use Rattle.fleet.specs.declared.record.Record.{Record}
+use Rattle.fleet.specs.declared.plan.Neighbours.{Neighbours}
+use Rattle.fleet.specs.Plan.{agentNumbers, numbersOf}
+
+-- one more, after the others
+unfoldable pub withNeighbour : Neighbours → ℕ → Record → Neighbours
+withNeighbour neighbours index r = record {
+  count = neighbours .count + 1;
+  numbers = sets (neighbours .numbers) (8 * neighbours .count) (agentNumbers r);
+  indices = set (neighbours .indices) (neighbours .count) index;
+}
+
+-- the neighbours are the agents at these indices of the table
+pub record Lists (agents : List Record) (indices : List ℕ) (neighbours : Neighbours) : Type 0 where
+  pub within : neighbours .count ≤ 64
+  pub counted : neighbours .count ≡ length indices
+  pub indexed : take (neighbours .count) (neighbours .indices) ≡ indices
+  pub numbered : take (8 * neighbours .count) (neighbours .numbers) ≡ numbersOf agents indices

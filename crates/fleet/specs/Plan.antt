@@ -1,0 +1,165 @@
+-- The call plan: the velocity call on the standing records, with the neighbours that the tick's rule keeps.
+use Prim.Native.Nat.{ℕ, suc}
+use mathlib.Core.Bool.{Bool, not, _&&_, cond}
+use mathlib.Core.List.{List, [], _∷_, _++_}
+use lib.Dec.{eqb}
+use lib.ListN.{getD}
+use lib.Ieee.{Float}
+use Rattle.vectors.specs.Number.{_⊕_, _⊗_, _≤ᶠ_, _>ᶠ_, ofWord}
+use Rattle.vectors.specs.Vec3.{_-ᵥ_, distanceSquared}
+use Rattle.avoidance.specs.declared.checks.Request.{Request}
+use Rattle.avoidance.specs.declared.velocity.Reply.{Reply}
+use Rattle.avoidance.specs.declared.velocity.Reply.the-variants.{Free, Relaxed, BadNeighbours, ShortScratch, NotFinite, OutOfRange, BadFallback, PlaneNotFinite, NoVelocity}
+use Rattle.avoidance.specs.Velocity.{velocityCall, scratchAfter}
+use Rattle.fleet.specs.declared.answer.Answer.the-variants as answer
+use Rattle.fleet.specs.declared.answer.Refusal.the-variants.{NoTick}
+use Rattle.fleet.specs.declared.answer.Verdict.{Verdict}
+use Rattle.fleet.specs.declared.answer.Verdict.the-variants.{Passed, Refused}
+use Rattle.fleet.specs.declared.record.Record.{Record}
+use Rattle.fleet.specs.declared.table.Rule.{Rule}
+use Rattle.fleet.specs.declared.table.Rule.the-variants.{Source, Near}
+use Rattle.fleet.specs.declared.table.Slot.{Slot}
+use Rattle.fleet.specs.declared.table.Tick.{Tick}
+use Rattle.fleet.specs.declared.table.Tick.the-variants.{Shut, Open}
+use Rattle.fleet.specs.declared.table.Fleet.{Fleet}
+use Rattle.fleet.specs.declared.table.Called.{Called}
+use Rattle.fleet.specs.Record.{blank, numberAt, agentOf, positionOf, radiusOf, goalOf, maxSpeedOf, horizonOf, fallbackOf}
+use Rattle.fleet.specs.Table.{agents, settled, agentAt}
+use Rattle.fleet.specs.Tick.{withHeld}
+
+-- ---- the neighbours
+
+abbrev pub two : Float
+two = ofWord 0x4000_0000
+
+-- q
+unfoldable pub queryDistance : Record → Float
+queryDistance own = maxSpeedOf own ⊗ horizonOf own ⊕ radiusOf own ⊗ two
+
+-- the Rust skips those at `<=`, and keeps the far ones
+unfoldable pub keeps : Rule → Record → Record → Bool
+keeps Source own other =
+    distanceSquared (positionOf own) (positionOf other) >ᶠ queryDistance own ⊗ queryDistance own
+keeps Near own other =
+    distanceSquared (positionOf own) (positionOf other) ≤ᶠ queryDistance own ⊗ queryDistance own
+
+-- the table indices of the others that the rule keeps, rising, where the first record has the index j
+unfoldable pub keptFrom : Rule → Record → ℕ → ℕ → List Record → List ℕ
+keptFrom rule own index j [] = []
+keptFrom rule own index j (other ∷ others) =
+    let later = keptFrom rule own index (suc j) others in
+    cond (not (eqb j index) && keeps rule own other) (j ∷ later) later
+
+-- words 0 to 7 as numbers
+unfoldable pub agentNumbers : Record → List Float
+agentNumbers r =
+    numberAt r 0
+    ∷ numberAt r 1
+    ∷ numberAt r 2
+    ∷ numberAt r 3
+    ∷ numberAt r 4
+    ∷ numberAt r 5
+    ∷ numberAt r 6
+    ∷ numberAt r 7
+    ∷ []
+
+unfoldable pub numbersOf : List Record → List ℕ → List Float
+numbersOf rs [] = []
+numbersOf rs (j ∷ js) = agentNumbers (getD rs j blank) ++ numbersOf rs js
+
+-- ---- the velocity call for an agent
+
+unfoldable pub requestFor : Record → Float → Request
+requestFor own timeStep = record {
+  agent = agentOf own;
+  preferred = goalOf own -ᵥ positionOf own;
+  «max_speed» = maxSpeedOf own;
+  «time_step» = timeStep;
+  horizon = horizonOf own;
+  fallback = fallbackOf own;
+}
+
+abbrev pub standing : List Record → ℕ → Record
+standing rs index = getD rs index blank
+
+unfoldable pub kept : Rule → List Record → ℕ → List ℕ
+kept rule rs index = keptFrom rule (standing rs index) index 0 rs
+
+unfoldable pub neighboursOf : Rule → List Record → ℕ → List Float
+neighboursOf rule rs index = numbersOf rs (kept rule rs index)
+
+-- for 6 the place is the neighbour's table index
+unfoldable pub byIndex : List ℕ → Reply → Reply
+byIndex js (Free v) = Free v
+byIndex js (Relaxed v k) = Relaxed v k
+byIndex js BadNeighbours = BadNeighbours
+byIndex js (ShortScratch needed) = ShortScratch needed
+byIndex js (NotFinite place) = NotFinite place
+byIndex js (OutOfRange place) = OutOfRange place
+byIndex js BadFallback = BadFallback
+byIndex js (PlaneNotFinite neighbour) = PlaneNotFinite (getD js neighbour 0)
+byIndex js NoVelocity = NoVelocity
+
+unfoldable pub replyFor : Float → Rule → List Record → ℕ → ℕ → Reply
+replyFor timeStep rule rs index scratchLength =
+    byIndex (kept rule rs index)
+    (velocityCall (requestFor (standing rs index) timeStep) (neighboursOf rule rs index) scratchLength)
+
+unfoldable pub scratchFor : Float → Rule → List Record → ℕ → List Float → List Float
+scratchFor timeStep rule rs index scratch =
+    scratchAfter (requestFor (standing rs index) timeStep) (neighboursOf rule rs index) scratch
+
+-- ---- plan
+
+-- an answered velocity is held until the tick ends; a refusal leaves an earlier one standing
+unfoldable pub plansAfter : List Slot → ℕ → Reply → List Slot
+plansAfter plans index (Free v) = withHeld plans index v
+plansAfter plans index (Relaxed v k) = withHeld plans index v
+plansAfter plans index BadNeighbours = plans
+plansAfter plans index (ShortScratch needed) = plans
+plansAfter plans index (NotFinite place) = plans
+plansAfter plans index (OutOfRange place) = plans
+plansAfter plans index BadFallback = plans
+plansAfter plans index (PlaneNotFinite neighbour) = plans
+plansAfter plans index NoVelocity = plans
+
+unfoldable pub fleetAfter : Fleet → ℕ → Reply → Fleet
+fleetAfter fleet index reply = record {
+  count = fleet .count;
+  records = fleet .records;
+  tick = fleet .tick;
+  plans = plansAfter (fleet .plans) index reply;
+  goals = fleet .goals;
+}
+
+unfoldable pub answeredBy : Verdict → Fleet → ℕ → Reply → Called
+answeredBy Passed fleet index reply = record { answer = answer.Plan reply; fleet = fleetAfter fleet index reply }
+answeredBy (Refused refusal) fleet index reply = record { answer = answer.Refused refusal; fleet = fleet }
+
+unfoldable pub planOpen : Float → Rule → Fleet → ℕ → ℕ → Called
+planOpen timeStep rule fleet index scratchLength =
+    answeredBy (agentAt fleet index) fleet index (replyFor timeStep rule (agents fleet) index scratchLength)
+
+unfoldable pub planIn : Tick → Fleet → ℕ → ℕ → Called
+planIn Shut fleet index scratchLength = settled (Refused NoTick) fleet fleet
+planIn (Open timeStep rule) fleet index scratchLength = planOpen timeStep rule fleet index scratchLength
+
+unfoldable pub planCall : Fleet → ℕ → ℕ → Called
+planCall fleet index scratchLength = planIn (fleet .tick) fleet index scratchLength
+
+-- ---- what is left in scratch: untouched for 8 and 11, else as the velocity call leaves it
+
+unfoldable pub scratchOf : Verdict → List Float → List Float → List Float
+scratchOf Passed scratch after = after
+scratchOf (Refused refusal) scratch after = scratch
+
+unfoldable pub scratchOpen : Float → Rule → Fleet → ℕ → List Float → List Float
+scratchOpen timeStep rule fleet index scratch =
+    scratchOf (agentAt fleet index) scratch (scratchFor timeStep rule (agents fleet) index scratch)
+
+unfoldable pub scratchIn : Tick → Fleet → ℕ → List Float → List Float
+scratchIn Shut fleet index scratch = scratch
+scratchIn (Open timeStep rule) fleet index scratch = scratchOpen timeStep rule fleet index scratch
+
+unfoldable pub planScratch : Fleet → ℕ → List Float → List Float
+planScratch fleet index scratch = scratchIn (fleet .tick) fleet index scratch

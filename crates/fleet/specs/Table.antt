@@ -1,0 +1,120 @@
+-- The table: its agents as a list of records, and the calls add, put, remove and read.
+use Prim.Native.Nat.{ℕ, suc, _+_, _-_}
+use mathlib.Core.Bool.{cond}
+use mathlib.Core.List.{List, [], _∷_, _++_}
+use lib.Dec.{ltb}
+use lib.ListN.{length, getD, take, drop, set, replicate}
+use Rattle.fleet.specs.declared.answer.Answer.{Answer}
+use Rattle.fleet.specs.declared.answer.Answer.the-variants as answer
+use Rattle.fleet.specs.declared.answer.Refusal.the-variants.{NoAgent, Full, TickOpen, NoTick}
+use Rattle.fleet.specs.declared.answer.Verdict.{Verdict}
+use Rattle.fleet.specs.declared.answer.Verdict.the-variants.{Passed, Refused}
+use Rattle.fleet.specs.declared.record.Record.{Record}
+use Rattle.fleet.specs.declared.table.Held.the-variants.{Nothing}
+use Rattle.fleet.specs.declared.table.Slot.{Slot}
+use Rattle.fleet.specs.declared.table.Tick.{Tick}
+use Rattle.fleet.specs.declared.table.Tick.the-variants.{Shut, Open}
+use Rattle.fleet.specs.declared.table.Fleet.{Fleet}
+use Rattle.fleet.specs.declared.table.Called.{Called}
+use Rattle.fleet.specs.declared.table.Read.{Read}
+use Rattle.fleet.specs.Answer.{mostAgents, _⊳_}
+use Rattle.fleet.specs.Record.{blank, recordVerdict}
+
+-- ---- a fleet and its agents
+
+-- the standing records; a count over 64 reads as 64
+unfoldable pub agents : Fleet → List Record
+agents fleet = take (fleet .count) (fleet .records)
+
+-- so many slots with nothing held
+unfoldable pub nothingHeld : List Slot
+nothingHeld = replicate mostAgents (record { held = Nothing })
+
+-- outside a tick a fleet is its records: past them all is blank, and nothing is held
+unfoldable pub inTick : Tick → List Record → Fleet
+inTick tick rs = record {
+  count = length rs;
+  records = rs ++ replicate (mostAgents - length rs) blank;
+  tick = tick;
+  plans = nothingHeld;
+  goals = nothingHeld;
+}
+
+abbrev pub fleetOf : List Record → Fleet
+fleetOf rs = inTick Shut rs
+
+-- ---- what a call hands back
+
+-- the new fleet where the call passed, and where it is refused the very fleet that it was given
+unfoldable pub settled : Verdict → Fleet → Fleet → Called
+settled Passed fleet next = record { answer = answer.Done; fleet = next }
+settled (Refused refusal) fleet next = record { answer = answer.Refused refusal; fleet = fleet }
+
+-- ---- checks of more than one call
+
+unfoldable pub shut : Tick → Verdict
+shut Shut = Passed
+shut (Open timeStep rule) = Refused TickOpen
+
+-- one of so many agents has that index
+abbrev pub agentAmong : ℕ → ℕ → Verdict
+agentAmong count index = cond (ltb index count) Passed (Refused (NoAgent index))
+
+unfoldable pub agentAt : Fleet → ℕ → Verdict
+agentAt fleet index = agentAmong (length (agents fleet)) index
+
+-- ---- add
+
+unfoldable pub room : ℕ → Verdict
+room count = cond (ltb count mostAgents) Passed (Refused Full)
+
+unfoldable pub addVerdict : Tick → ℕ → Record → Verdict
+addVerdict tick count r = shut tick ⊳ room count ⊳ recordVerdict 0 r
+
+unfoldable pub added : Fleet → Record → Fleet
+added fleet r = fleetOf (agents fleet ++ r ∷ [])
+
+unfoldable pub addCall : Fleet → List ℕ → Called
+addCall fleet words =
+    let r : Record = record { words = words } in
+    settled (addVerdict (fleet .tick) (length (agents fleet)) r) fleet (added fleet r)
+
+-- ---- put
+
+unfoldable pub putVerdict : Tick → ℕ → ℕ → Record → Verdict
+putVerdict tick count index r = shut tick ⊳ agentAmong count index ⊳ recordVerdict 0 r
+
+abbrev pub withRecord : Fleet → ℕ → Record → Fleet
+withRecord fleet index r = fleetOf (set (agents fleet) index r)
+
+unfoldable pub putCall : Fleet → ℕ → List ℕ → Called
+putCall fleet index words =
+    let r : Record = record { words = words } in
+    settled (putVerdict (fleet .tick) (length (agents fleet)) index r) fleet (withRecord fleet index r)
+
+-- ---- remove
+
+unfoldable pub removeVerdict : Tick → ℕ → ℕ → Verdict
+removeVerdict tick count index = shut tick ⊳ agentAmong count index
+
+-- later agents move down by one, all their words with them
+unfoldable pub removed : Fleet → ℕ → Fleet
+removed fleet index = fleetOf (take index (agents fleet) ++ drop (suc index) (agents fleet))
+
+unfoldable pub removeCall : Fleet → ℕ → Called
+removeCall fleet index =
+    settled (removeVerdict (fleet .tick) (length (agents fleet)) index) fleet (removed fleet index)
+
+-- ---- read
+
+unfoldable pub answerTo : Verdict → Answer
+answerTo Passed = answer.Done
+answerTo (Refused refusal) = answer.Refused refusal
+
+-- the standing record's words, in a tick too; zeros where it is refused
+unfoldable pub readCall : Fleet → ℕ → Read
+readCall fleet index = record {
+  answer = answerTo (agentAt fleet index);
+  words = getD (agents fleet) index blank .words;
+  fleet = fleet;
+}

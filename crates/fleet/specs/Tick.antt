@@ -1,0 +1,158 @@
+-- The tick: the calls open, goal, close and drop.
+use Prim.Native.Nat.{ℕ, suc}
+use mathlib.Core.Bool.{Bool, true, false, cond}
+use mathlib.Core.List.{List, [], _∷_}
+use lib.Dec.{ltb}
+use lib.ListN.{length, getD, take, set}
+use lib.Ieee.{Float}
+use Rattle.vectors.specs.declared.Vec3.{Vec3}
+use Rattle.vectors.specs.Number.{_>ᶠ_, zero, finite}
+use Rattle.vectors.specs.Vec3.{_+ᵥ_, _*ᵥ_}
+use Rattle.avoidance.specs.declared.checks.Found.{Found}
+use Rattle.avoidance.specs.declared.checks.Found.the-variants as found
+use Rattle.avoidance.specs.Velocity.{finiteVec}
+use Rattle.fleet.specs.declared.answer.Refusal.the-variants.{NotFinite, OutOfRange, NoAgent, NoTick, Unplanned, PositionNotFinite}
+use Rattle.fleet.specs.declared.answer.Verdict.{Verdict}
+use Rattle.fleet.specs.declared.answer.Verdict.the-variants.{Passed, Refused}
+use Rattle.fleet.specs.declared.record.Record.{Record}
+use Rattle.fleet.specs.declared.table.Rule.{Rule}
+use Rattle.fleet.specs.declared.table.Held.{Held}
+use Rattle.fleet.specs.declared.table.Held.the-variants.{Nothing, Vector}
+use Rattle.fleet.specs.declared.table.Slot.{Slot}
+use Rattle.fleet.specs.declared.table.Tick.{Tick}
+use Rattle.fleet.specs.declared.table.Tick.the-variants.{Shut, Open}
+use Rattle.fleet.specs.declared.table.Fleet.{Fleet}
+use Rattle.fleet.specs.declared.table.Called.{Called}
+use Rattle.fleet.specs.Answer.{_⊳_, refusedAt}
+use Rattle.fleet.specs.Record.{blank, withVector, positionOf}
+use Rattle.fleet.specs.Table.{agents, inTick, fleetOf, settled, shut}
+
+-- two lists, element by element
+unfoldable pub each : {A B C : Type 0} → (A → B → C) → List A → List B → List C
+each f [] ys = []
+each f (x ∷ xs) [] = []
+each f (x ∷ xs) (y ∷ ys) = f x y ∷ each f xs ys
+
+-- the index of the first element that fails the test, where the first of all has the index i
+unfoldable pub firstNot : {A : Type 0} → (A → Bool) → ℕ → List A → Found
+firstNot passes i [] = found.Nothing
+firstNot passes i (x ∷ xs) = cond (passes x) (firstNot passes (suc i) xs) (found.At i)
+
+-- ---- open
+
+-- the time step is at the place 12, as in the velocity call
+unfoldable pub stepVerdict : Float → Verdict
+stepVerdict timeStep =
+    cond (finite timeStep) (cond (timeStep >ᶠ zero) Passed (Refused (OutOfRange 12))) (Refused (NotFinite 12))
+
+unfoldable pub openVerdict : Tick → Float → Verdict
+openVerdict tick timeStep = shut tick ⊳ stepVerdict timeStep
+
+unfoldable pub openCall : Fleet → Float → Rule → Called
+openCall fleet timeStep rule =
+    settled (openVerdict (fleet .tick) timeStep) fleet (inTick (Open timeStep rule) (agents fleet))
+
+-- ---- goal
+
+-- the first component that is not finite; a goal's components are the words 8 to 10
+unfoldable pub goalFault : Vec3 → Found
+goalFault goal =
+    cond (finite (goal .x)) (cond (finite (goal .y)) (cond (finite (goal .z)) found.Nothing (found.At 10)) (found.At 9)) (found.At 8)
+
+-- 8, where there are `count` agents, then 3
+unfoldable pub goalVerdict : ℕ → ℕ → Vec3 → Verdict
+goalVerdict count index goal =
+    cond (ltb index count) Passed (Refused (NoAgent index)) ⊳ refusedAt (goalFault goal) NotFinite
+
+unfoldable pub withGoal : Vec3 → Record → Record
+withGoal goal r = withVector r 8 goal
+
+-- held for the agent at the index, in place of an earlier one
+unfoldable pub withHeld : List Slot → ℕ → Vec3 → List Slot
+withHeld slots index v = set slots index (record { held = Vector v })
+
+-- in a tick it is held: of those taken up in call order, the last one stands
+unfoldable pub holdGoal : Fleet → ℕ → Vec3 → Fleet
+holdGoal fleet index goal = record {
+  count = fleet .count;
+  records = fleet .records;
+  tick = fleet .tick;
+  plans = fleet .plans;
+  goals = withHeld (fleet .goals) index goal;
+}
+
+unfoldable pub goalSet : Tick → Fleet → ℕ → Vec3 → Fleet
+goalSet Shut fleet index goal = fleetOf (set (agents fleet) index (withGoal goal (getD (agents fleet) index blank)))
+goalSet (Open timeStep rule) fleet index goal = holdGoal fleet index goal
+
+unfoldable pub goalCall : Fleet → ℕ → Vec3 → Called
+goalCall fleet index goal =
+    settled (goalVerdict (length (agents fleet)) index goal) fleet (goalSet (fleet .tick) fleet index goal)
+
+-- ---- held goals, taken up by close and drop
+
+unfoldable pub goalTaken : Record → Held → Record
+goalTaken r Nothing = r
+goalTaken r (Vector goal) = withGoal goal r
+
+unfoldable pub goalsTaken : List Record → List Slot → List Record
+goalsTaken rs goals = each (λ (r : Record) (goal : Slot). goalTaken r (goal .held)) rs goals
+
+-- the fleet after a tick that leaves it with these records
+unfoldable pub ended : List Record → List Slot → Fleet
+ended rs goals = fleetOf (goalsTaken rs goals)
+
+-- ---- close
+
+unfoldable pub planned : Held → Bool
+planned Nothing = false
+planned (Vector velocity) = true
+
+unfoldable pub firstUnplanned : List Slot → Found
+firstUnplanned plans = firstNot (λ (plan : Slot). planned (plan .held)) 0 plans
+
+-- where a plan takes an agent
+unfoldable pub arrival : Float → Record → Held → Vec3
+arrival timeStep r Nothing = positionOf r
+arrival timeStep r (Vector velocity) = positionOf r +ᵥ velocity *ᵥ timeStep
+
+-- the first position with a component that is not finite
+unfoldable pub firstAstray : List Vec3 → Found
+firstAstray positions = firstNot finiteVec 0 positions
+
+unfoldable pub moved : Float → Record → Held → Record
+moved timeStep r Nothing = r
+moved timeStep r (Vector velocity) = withVector (withVector r 3 velocity) 0 (arrival timeStep r (Vector velocity))
+
+unfoldable pub arrivals : Float → List Record → List Slot → List Vec3
+arrivals timeStep rs plans = each (λ (r : Record) (plan : Slot). arrival timeStep r (plan .held)) rs plans
+
+unfoldable pub allMoved : Float → List Record → List Slot → List Record
+allMoved timeStep rs plans = each (λ (r : Record) (plan : Slot). moved timeStep r (plan .held)) rs plans
+
+-- 12 before 13
+unfoldable pub closeVerdict : Float → List Record → List Slot → Verdict
+closeVerdict timeStep rs plans =
+    refusedAt (firstUnplanned (take (length rs) plans)) Unplanned
+    ⊳ refusedAt (firstAstray (arrivals timeStep rs plans)) PositionNotFinite
+
+unfoldable pub closeOpen : Float → Fleet → Called
+closeOpen timeStep fleet =
+    settled (closeVerdict timeStep (agents fleet) (fleet .plans)) fleet
+    (ended (allMoved timeStep (agents fleet) (fleet .plans)) (fleet .goals))
+
+unfoldable pub closeIn : Tick → Fleet → Called
+closeIn Shut fleet = settled (Refused NoTick) fleet fleet
+closeIn (Open timeStep rule) fleet = closeOpen timeStep fleet
+
+unfoldable pub closeCall : Fleet → Called
+closeCall fleet = closeIn (fleet .tick) fleet
+
+-- ---- drop
+
+unfoldable pub opened : Tick → Verdict
+opened Shut = Refused NoTick
+opened (Open timeStep rule) = Passed
+
+unfoldable pub dropCall : Fleet → Called
+dropCall fleet = settled (opened (fleet .tick)) fleet (ended (agents fleet) (fleet .goals))
