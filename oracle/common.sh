@@ -1,14 +1,23 @@
-# What run, bench and sample share. They source it with the repository as the working directory.
+# What run, ticks, bench and sample share. They source it with the repository as the working directory.
 # shellcheck shell=bash
 
 built=target/oracle
 # The command that makes the library's calls; build_server sets it.
 server=()
+# The command that makes the fleet table's; build_replay sets it.
+replay=()
 
 # need COMMAND PACKAGE: stops where COMMAND is missing, and names the package that has it.
 need() {
     command -v "$1" >/dev/null && return
     echo "oracle: there is no $1 here. The package $2 of Debian and Ubuntu has it." >&2
+    exit 2
+}
+
+# need_rt WHAT: stops where there is no toolchain to build WHAT.
+need_rt() {
+    command -v rt >/dev/null && return
+    echo "oracle: there is no rt here, the command of the Rattle toolchain, to prove and build $1." >&2
     exit 2
 }
 
@@ -68,16 +77,31 @@ build_server() {
     fi
     mkdir -p "$built"
     if [ -z "${GUINEACRUMB_NATIVE:-}" ]; then
-        if ! command -v rt >/dev/null; then
-            echo "oracle: there is no rt here, the command of the Rattle toolchain, to prove and build the library." >&2
-            exit 2
-        fi
+        need_rt "the library"
         rt staticlib guineacrumb >"$built/staticlib.log" 2>&1 || {
             cat "$built/staticlib.log" >&2
             exit 1
         }
     fi
     "$compiler" $linked -std=c11 -O2 -Wall -Wextra -Iinclude -o "$built/velocity_server" oracle/velocity_server.c "$library"
+}
+
+# Proves and builds the program replay, which is x86-64 code and asks for that machine's C library. It runs
+# here, or under an emulator that finds the library where it stands for programs of the other machine.
+# GUINEACRUMB_REPLAY may name a program that was built already.
+build_replay() {
+    replay=("${GUINEACRUMB_REPLAY:-target/bin/replay}")
+    if [ "$(uname -m)" != x86_64 ]; then
+        need qemu-x86_64 qemu-user
+        replay=(qemu-x86_64 -L "${QEMU_LD_PREFIX:-/usr/x86_64-linux-gnu}" "${replay[@]}")
+    fi
+    [ -z "${GUINEACRUMB_REPLAY:-}" ] || return 0
+    need_rt "the program replay"
+    mkdir -p "$built"
+    rt check replay >"$built/replay.log" 2>&1 || {
+        cat "$built/replay.log" >&2
+        exit 1
+    }
 }
 
 # Says so where the library runs under an emulator.

@@ -1,12 +1,19 @@
-//! Guineacrumb's velocity call against the published one.
+//! Guineacrumb against the published Rust: the velocity call, and the fleet table.
 //!
 //! Guineacrumb is an x86-64 archive, and this program runs on any machine: so the library is reached
 //! through a small C program (`../velocity_server.c`), emulated where it has to be, that makes the calls
 //! that it is sent (`server`). The inputs are drawn by `inputs`, from a seed and a number, so that each
 //! can be drawn again by itself. What has to come of them is worked out by `published`: from dodgy_3d,
 //! and from document 01's table where that refuses and the Rust does not.
+//!
+//! The fleet table is compared with the published Simulator in the same way: `flights` draws fleets and ticks,
+//! `simulated` works out what has to come of them, and `replay` has the program of that name make the calls.
 pub mod case;
+pub mod flights;
 pub mod inputs;
 pub mod published;
 pub mod random;
+pub mod record;
+pub mod replay;
 pub mod server;
+pub mod simulated;

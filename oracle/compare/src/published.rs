@@ -41,18 +41,18 @@ pub fn catch_quietly() {
 }
 
 /// What `f` gives, or what it said when it panicked.
-fn caught<T>(f: impl FnOnce() -> T) -> Result<T, String> {
+pub fn caught<T>(f: impl FnOnce() -> T) -> Result<T, String> {
     CATCHING.set(true);
     let result = catch_unwind(AssertUnwindSafe(f));
     CATCHING.set(false);
     result.map_err(|_| MESSAGE.take())
 }
 
-fn vector(numbers: &[f32]) -> Vec3 {
+pub fn vector(numbers: &[f32]) -> Vec3 {
     Vec3::new(numbers[0], numbers[1], numbers[2])
 }
 
-fn agent(numbers: &[f32]) -> Agent {
+pub fn agent(numbers: &[f32]) -> Agent {
     Agent {
         position: vector(&numbers[0..3]),
         velocity: vector(&numbers[3..6]),

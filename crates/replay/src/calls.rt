@@ -1,0 +1,132 @@
+// A call: its kind, and what it takes of its 22 words. Words that a kind does not take are not looked at, but for
+// the length of scratch, which is held to its limit in every call.
+ghost use Prim.Native.Nat.{_≤_};
+use super::report;
+use fleet::table::Called;
+use fleet::table::Fleet;
+use fleet::table::Rule;
+use vectors::Vec3;
+use vectors::number::from_word;
+
+// In the order of their numbers, from 1 on.
+pub enum Call {
+    // the words
+    Add,
+    // the index, the words
+    Put,
+    // the index
+    Remove,
+    // the index
+    Read,
+    // the index; three numbers
+    Goal,
+    // the time step; 0 for the source rule, 1 for the near rule
+    Open(Rule),
+    // the index, the length of scratch
+    Plan,
+    Close,
+    Drop,
+}
+
+// What 22 words are read as.
+pub enum Form {
+    Call(Call),
+    Unknown,
+}
+
+fn opening(rule: u32) -> Form {
+    match rule {
+        0 => Form::Call(Call::Open(Rule::Source)),
+        1 => Form::Call(Call::Open(Rule::Near)),
+        _ => Form::Unknown,
+    }
+}
+
+fn of_kind(kind: u32, rule: u32) -> Form {
+    match kind {
+        1 => Form::Call(Call::Add),
+        2 => Form::Call(Call::Put),
+        3 => Form::Call(Call::Remove),
+        4 => Form::Call(Call::Read),
+        5 => Form::Call(Call::Goal),
+        6 => opening(rule),
+        7 => Form::Call(Call::Plan),
+        8 => Form::Call(Call::Close),
+        9 => Form::Call(Call::Drop),
+        _ => Form::Unknown,
+    }
+}
+
+pub fn form_of(words: [u32; 22]) -> Form {
+    if 1024 < words[2] {
+        return Form::Unknown;
+    }
+    of_kind(words[0], words[4])
+}
+
+// The 19 arguments.
+fn arguments(words: [u32; 22]) -> [u32; 19] {
+    let mut out = [0; 19];
+    let mut place = 0;
+    while place < 19 {
+        out[place] = words[3 + place];
+        place += 1;
+    }
+    out
+}
+
+fn goal(words: [u32; 22]) -> Vec3 {
+    Vec3 {
+        x: from_word(words[3]),
+        y: from_word(words[4]),
+        z: from_word(words[5]),
+    }
+}
+
+fn at_most(most: usize, length: usize) -> usize
+    ensures { λ r. ⌜ r ≤ most ⌝ }
+{
+    if length <= most { length } else { most }
+}
+
+// A plan on a scratch of that length; `form_of` lets none pass that is over 1,024.
+fn plan(fleet: Fleet, index: usize, length: usize) -> Called {
+    let mut scratch = [0.0f32; 1024];
+    let lent = at_most(1024, length);
+    fleet.plan(index, &mut scratch[0..lent])
+}
+
+// Any call but read.
+fn called(fleet: Fleet, call: Call, words: [u32; 22]) -> Called {
+    let index = words[1] as usize;
+    match call {
+        Call::Add => fleet.add(arguments(words)),
+        Call::Put => fleet.put(index, arguments(words)),
+        Call::Remove => fleet.remove(index),
+        Call::Goal => fleet.goal(index, goal(words)),
+        Call::Open(rule) => fleet.open(from_word(words[3]), rule),
+        Call::Plan => plan(fleet, index, words[2] as usize),
+        Call::Close => fleet.close(),
+        _ => fleet.drop(),
+    }
+}
+
+// Says what a call answered, and hands the fleet after it back.
+pub fn said(called: Called) -> Fleet {
+    let answer = called.answer;
+    report::say_answer(answer);
+    called.fleet
+}
+
+fn say_standing(fleet: Fleet, index: usize) {
+    report::say_read(fleet.read(index));
+}
+
+// Makes the call and says what it answers. The fleet after it.
+pub fn make(fleet: Fleet, call: Call, words: [u32; 22]) -> Fleet {
+    if let Call::Read = call {
+        say_standing(fleet, words[1] as usize);
+        return fleet;
+    }
+    said(called(fleet, call, words))
+}

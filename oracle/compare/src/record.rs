@@ -1,0 +1,78 @@
+//! A stored agent: document 01's 19 words.
+use dodgy_3d::{Agent, AgentParameters, SimulatorMargin, Vec3};
+
+use crate::case::AGENT;
+use crate::published::{agent, vector};
+
+/// The words of a record.
+pub const WORDS: usize = 19;
+/// Where they stand in it; the first eight are the agent's, as in a request.
+pub const POSITION: usize = 0;
+pub const VELOCITY: usize = 3;
+pub const GOAL: usize = 8;
+pub const MAX_SPEED: usize = 11;
+pub const HORIZON: usize = 12;
+pub const FALLBACK: usize = 13;
+pub const OBSTACLE_HORIZON: usize = 16;
+pub const MARGIN: usize = 17;
+pub const DISTANCE: usize = 18;
+
+/// All words but the margin are bits of numbers.
+#[derive(Clone, Copy, PartialEq, Eq, Debug)]
+pub struct Record {
+    pub words: [u32; WORDS],
+}
+
+impl Record {
+    pub fn blank() -> Record {
+        Record { words: [0; WORDS] }
+    }
+
+    pub fn number(&self, place: usize) -> f32 {
+        f32::from_bits(self.words[place])
+    }
+
+    pub fn numbers<const N: usize>(&self, place: usize) -> [f32; N] {
+        std::array::from_fn(|i| self.number(place + i))
+    }
+
+    pub fn set(&mut self, place: usize, numbers: &[f32]) {
+        for (word, x) in self.words[place..].iter_mut().zip(numbers) {
+            *word = x.to_bits();
+        }
+    }
+
+    pub fn set_vector(&mut self, place: usize, v: Vec3) {
+        self.set(place, &[v.x, v.y, v.z]);
+    }
+
+    pub fn agent(&self) -> Agent {
+        agent(&self.numbers::<AGENT>(0))
+    }
+
+    pub fn position(&self) -> Vec3 {
+        vector(&self.numbers::<3>(POSITION))
+    }
+
+    pub fn goal(&self) -> Vec3 {
+        vector(&self.numbers::<3>(GOAL))
+    }
+
+    pub fn parameters(&self) -> AgentParameters {
+        AgentParameters {
+            goal_point: self.goal(),
+            max_speed: self.number(MAX_SPEED),
+            obstacle_margin: match self.words[MARGIN] {
+                0 => SimulatorMargin::AgentRadius,
+                _ => SimulatorMargin::Distance(self.number(DISTANCE)),
+            },
+            time_horizon: self.number(HORIZON),
+            obstacle_time_horizon: self.number(OBSTACLE_HORIZON),
+        }
+    }
+
+    /// The words as replay prints them.
+    pub fn text(&self) -> String {
+        self.words.map(|word| format!("{word:08x}")).join(" ")
+    }
+}
