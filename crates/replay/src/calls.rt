@@ -2,6 +2,7 @@
 // the length of scratch, which is held to its limit in every call.
 ghost use Prim.Native.Nat.{_≤_};
 use super::report;
+use fleet::answer::Answer;
 use fleet::table::Called;
 use fleet::table::Fleet;
 use fleet::table::Rule;
@@ -57,7 +58,7 @@ fn of_kind(kind: u32, rule: u32) -> Form {
     }
 }
 
-pub fn form_of(words: [u32; 22]) -> Form {
+pub(crate) fn form_of(words: [u32; 22]) -> Form {
     if 1024 < words[2] {
         return Form::Unknown;
     }
@@ -96,7 +97,7 @@ fn plan(fleet: Fleet, index: usize, length: usize) -> Called {
     fleet.plan(index, &mut scratch[0..lent])
 }
 
-// Any call but read.
+// Any call but read, which hands back words and no new fleet.
 fn called(fleet: Fleet, call: Call, words: [u32; 22]) -> Called {
     let index = words[1] as usize;
     match call {
@@ -107,12 +108,16 @@ fn called(fleet: Fleet, call: Call, words: [u32; 22]) -> Called {
         Call::Open(rule) => fleet.open(from_word(words[3]), rule),
         Call::Plan => plan(fleet, index, words[2] as usize),
         Call::Close => fleet.close(),
-        _ => fleet.drop(),
+        Call::Drop => fleet.drop(),
+        Call::Read => Called {
+            answer: Answer::Done,
+            fleet,
+        },
     }
 }
 
 // Says what a call answered, and hands the fleet after it back.
-pub fn said(called: Called) -> Fleet {
+pub(crate) fn said(called: Called) -> Fleet {
     let answer = called.answer;
     report::say_answer(answer);
     called.fleet
@@ -123,7 +128,7 @@ fn say_standing(fleet: Fleet, index: usize) {
 }
 
 // Makes the call and says what it answers. The fleet after it.
-pub fn make(fleet: Fleet, call: Call, words: [u32; 22]) -> Fleet {
+pub(crate) fn make(fleet: Fleet, call: Call, words: [u32; 22]) -> Fleet {
     if let Call::Read = call {
         say_standing(fleet, words[1] as usize);
         return fleet;

@@ -43,7 +43,7 @@ fn fills(input: i32, buffer: &mut [u8]) -> bool {
     io::read_full(input, buffer) == wanted
 }
 
-pub fn file_length(input: i32) -> Length {
+pub(crate) fn file_length(input: i32) -> Length {
     let mut bytes = [0u8; 4];
     if io::read_full(input, &mut bytes) < 4 {
         return Length::Missing;
@@ -72,7 +72,7 @@ fn pass_over(input: i32, length: usize) -> bool {
 }
 
 // Reads a file of that length, as much of it as the buffer takes, and says whether it was all there.
-pub fn read_file(input: i32, buffer: &mut [u8], length: usize) -> bool {
+pub(crate) fn read_file(input: i32, buffer: &mut [u8], length: usize) -> bool {
     let most = buffer.len();
     if length <= most {
         return fills(input, &mut buffer[0..length]);
@@ -121,7 +121,7 @@ fn found_in(words: [u32; 22]) -> Found {
     }
 }
 
-pub fn read_next(input: i32) -> Next {
+pub(crate) fn read_next(input: i32) -> Next {
     let mut bytes = [0u8; 88];
     let got = io::read_full(input, &mut bytes);
     if got < 88 {

@@ -24,14 +24,14 @@ fn say_float(x: f32) {
 }
 
 // `file NAME`, before what comes of a file
-pub fn say_name(name: &[u8]) {
+pub(crate) fn say_name(name: &[u8]) {
     say(b"file ");
     say(name);
     say(b"\n");
 }
 
 // `unreadable B`
-pub fn say_unreadable(byte: usize) {
+pub(crate) fn say_unreadable(byte: usize) {
     say(b"unreadable ");
     say_number(byte);
     say(b"\n");
@@ -70,7 +70,7 @@ fn say_reply(reply: Reply) {
     }
 }
 
-pub fn say_answer(answer: Answer) {
+pub(crate) fn say_answer(answer: Answer) {
     match answer {
         Answer::Done => say(b"done\n"),
         Answer::Plan(reply) => say_reply(reply),
@@ -108,7 +108,7 @@ fn say_words(words: [u32; 19]) {
     say_line(&line);
 }
 
-pub fn say_read(read: Read) {
+pub(crate) fn say_read(read: Read) {
     let answer = read.answer;
     let words = read.words;
     if let Answer::Done = answer {
@@ -119,7 +119,7 @@ pub fn say_read(read: Read) {
 }
 
 // `fleet`, and the words of every agent
-pub fn say_fleet(fleet: Fleet) {
+pub(crate) fn say_fleet(fleet: Fleet) {
     say(b"fleet\n");
     let count = fleet.agent_count();
     let mut index = 0;
