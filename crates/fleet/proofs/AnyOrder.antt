@@ -31,6 +31,7 @@ use Rattle.avoidance.specs.Velocity.{velocityCall, afterChecks, plannedReply, v
 use Rattle.avoidance.specs.Velocity as velocity
 use Rattle.fleet.specs.declared.answer.Refusal.{Refusal}
 use Rattle.fleet.specs.declared.answer.Refusal.the-variants as refusal
+use Rattle.fleet.specs.declared.answer.Answer.{Answer}
 use Rattle.fleet.specs.declared.answer.Answer.the-variants as answer
 use Rattle.fleet.specs.declared.answer.Verdict.{Verdict}
 use Rattle.fleet.specs.declared.answer.Verdict.the-variants.{Passed, Refused}
@@ -51,7 +52,7 @@ use Rattle.fleet.specs.Tick as tick
 use Rattle.fleet.specs.Plan.{keeps, keptFrom, agentNumbers, numbersOf, requestFor, standing, kept, neighboursOf, byIndex, replyFor, plansAfter, fleetAfter, answeredBy, planOpen, planIn, planCall}
 use Rattle.fleet.specs.Calls.{Call, step}
 use Rattle.fleet.proofs.Refusals.{refused-unchanged}
-use Rattle.fleet.specs.Runs.{after, accepted, stays, staysOpen, goalIn, goalsOf, goalCalls, inOrder, canonical}
+use Rattle.fleet.specs.Runs.{after, run, accepted, stays, staysOpen, goalIn, goalsOf, goalCalls, inOrder, canonical}
 
 no-truth : {P : Type 0} → false ≡ true → P
 no-truth e = let z : _≡_ {A = ℕ} 0 1 = cc in absurd (omega arith)
@@ -745,7 +746,17 @@ module _ (fleet : Fleet) (timeStep : Float) (rule : Rule) (whole : Whole fleet) 
       ∙ ap (λ (goals : List (ℕ × Vec3)). after opened (canonical opened scratch goals)) same
       ∙ sym (any-order other scratch still′ closes′ enough)
 
--- what a refused call said has no effect on anything after it
-pub refused-unseen : (fleet : Fleet) (call : Call) (calls : List Call) → accepted fleet call ≡ false → after fleet (call ∷ calls) ≡ after fleet calls
-unfolding after accepted
-refused-unseen fleet call calls refused = ap (λ (next : Fleet). after next calls) (refused-unchanged fleet call (eqb-false (number (step fleet call .answer)) 0 refused))
+-- the answer to a call in a run is the one that it gets after the calls before it, to which `standing-plans` speaks
+pub answered-in-turn : (fleet : Fleet) (before : List Call) (call : Call) (later : List Call)
+    → run fleet (before ++ call ∷ later) ≡ run fleet before ++ (call, step (after fleet before) call .answer) ∷ run (step (after fleet before) call .fleet) later
+unfolding run after
+answered-in-turn fleet [] call later = refl
+answered-in-turn fleet (first ∷ before) call later = ap (λ (rest : List (Call × Answer)). (first, step fleet first .answer) ∷ rest) (answered-in-turn (step fleet first .fleet) before call later)
+
+-- what a refused call said has no effect on anything after it: not on the table, and on no later answer
+pub refused-unseen : (fleet : Fleet) (call : Call) (calls : List Call) → accepted fleet call ≡ false
+    → (after fleet (call ∷ calls) ≡ after fleet calls) × (run fleet (call ∷ calls) ≡ (call, step fleet call .answer) ∷ run fleet calls)
+unfolding after run accepted
+refused-unseen fleet call calls refused =
+    let same : step fleet call .fleet ≡ fleet = refused-unchanged fleet call (eqb-false (number (step fleet call .answer)) 0 refused) in
+    (ap (λ (next : Fleet). after next calls) same, ap (λ (next : Fleet). (call, step fleet call .answer) ∷ run next calls) same)

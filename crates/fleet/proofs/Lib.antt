@@ -8,5 +8,6 @@ pub mod Each
 pub mod First
 pub mod Kept
 pub mod LoadRead
+pub mod ReaderLoad
 pub mod Refusals
 pub mod AnyOrder

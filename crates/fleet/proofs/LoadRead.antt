@@ -18,15 +18,15 @@ use Rattle.fleet.proofs.Stored.{parts-length, part-at}
 use Rattle.fleet.proofs.Agents.{agents-in-tick}
 use Rattle.fleet.proofs.Verdicts.{settled-done}
 
--- a file's agents are its records
-loaded-agents : (file : List ℕ) → agents (loaded file) ≡ recordsOf file
-unfolding loaded
-loaded-agents file = agents-in-tick Shut (recordsOf file)
-
 -- an accepted load hands back the fleet of the file
 pub load-accepted : (fleet : Fleet) (file : List ℕ) → loadCall fleet file .answer ≡ Done → loadCall fleet file ≡ record { answer = Done; fleet = loaded file }
 unfolding loadCall
 load-accepted fleet file e = settled-done (loadVerdict (fleet .tick) file) fleet (loaded file) e
+
+-- its agents are the file's records
+pub load-agents : (fleet : Fleet) (file : List ℕ) → loadCall fleet file .answer ≡ Done → agents (loadCall fleet file .fleet) ≡ recordsOf file
+unfolding loaded
+load-agents fleet file e = ap (λ (called : Called). agents (called .fleet)) (load-accepted fleet file e) ∙ agents-in-tick Shut (recordsOf file)
 
 -- after an accepted load, a read of each record of the file is answered, with the words of its bytes
 pub load-read : (fleet : Fleet) (file : List ℕ) (k : ℕ) → loadCall fleet file .answer ≡ Done → k < length file / recordBytes
@@ -34,9 +34,8 @@ pub load-read : (fleet : Fleet) (file : List ℕ) (k : ℕ) → loadCall fleet f
 unfolding readCall agentAt answerTo recordIn
 load-read fleet file k e h =
     let n = length file / recordBytes in
-    let held : agents (loadCall fleet file .fleet) ≡ recordsOf file = ap (λ (called : Called). agents (called .fleet)) (load-accepted fleet file e) ∙ loaded-agents file in
     let there : k < length (recordsOf file) = omega (arith, parts-length recordBytes recordIn n file) in
-    rw (held, lt-ltb k (length (recordsOf file)) there, part-at recordBytes recordIn n k file blank h)
+    rw (load-agents fleet file e, lt-ltb k (length (recordsOf file)) there, part-at recordBytes recordIn n k file blank h)
 
 -- word j of record k is in the four bytes from 76k + 4j on
 pub load-read-word : (fleet : Fleet) (file : List ℕ) (k j : ℕ) → loadCall fleet file .answer ≡ Done → k < length file / recordBytes → j < perRecord

@@ -55,10 +55,14 @@ pub settled-passed : {v : Verdict} {made next : Fleet} (fleet : Fleet) → made 
 unfolding settled
 settled-passed fleet same e = rw (same, e)
 
+pub settled-passes : (v : Verdict) (fleet next : Fleet) → settled v fleet next .answer ≡ Done → v ≡ Passed
+unfolding settled
+settled-passes Passed fleet next e = refl
+settled-passes (Refused refusal) fleet next e = absurd (let z : _≡_ {A = ℕ} 0 1 = cc in omega arith)
+
 pub settled-done : (v : Verdict) (fleet next : Fleet) → settled v fleet next .answer ≡ Done → settled v fleet next ≡ record { answer = Done; fleet = next }
 unfolding settled
-settled-done Passed fleet next e = refl
-settled-done (Refused refusal) fleet next e = absurd (let z : _≡_ {A = ℕ} 0 1 = cc in omega arith)
+settled-done v fleet next e = rw (settled-passes v fleet next e)
 
 -- a refused call leaves the table unchanged
 pub settled-unchanged : (v : Verdict) (fleet next : Fleet) {refusal : Refusal} → settled v fleet next .answer ≡ answer.Refused refusal → settled v fleet next .fleet ≡ fleet

@@ -3,6 +3,7 @@ pub mod Answer
 pub mod Record
 pub mod Table
 pub mod File
+pub mod Reader
 pub mod Tick
 pub mod Plan
 pub mod Neighbours

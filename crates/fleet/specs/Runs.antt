@@ -7,6 +7,7 @@ use lib.Dec.{eqb}
 use lib.ListN.{length}
 use lib.Ieee.{Float}
 use Rattle.vectors.specs.declared.Vec3.{Vec3}
+use Rattle.fleet.specs.declared.answer.Answer.{Answer}
 use Rattle.fleet.specs.declared.table.Fleet.{Fleet}
 use Rattle.fleet.specs.Answer.{number}
 use Rattle.fleet.specs.Table.{agents}
@@ -17,6 +18,11 @@ use Rattle.fleet.specs.Calls.{Call, step}
 unfoldable pub after : Fleet → List Call → Fleet
 after fleet [] = fleet
 after fleet (call ∷ calls) = after (step fleet call .fleet) calls
+
+-- each call of a run, with its answer
+unfoldable pub run : Fleet → List Call → List (Call × Answer)
+run fleet [] = []
+run fleet (call ∷ calls) = (call, step fleet call .answer) ∷ run (step fleet call .fleet) calls
 
 unfoldable pub accepted : Fleet → Call → Bool
 accepted fleet call = eqb (number (step fleet call .answer)) 0

@@ -48,7 +48,7 @@ pub(crate) fn record_at(file: &[u8], at: usize) -> Record
     Record { words }
 }
 
-fn whole_file(bytes: usize) -> Verdict
+pub(crate) fn whole_file(bytes: usize) -> Verdict
     ensures { λ r. ⌜ r ≡ wholeFile bytes ⌝ }
 {
     if bytes % 76 != 0 {

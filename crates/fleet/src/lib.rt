@@ -4,6 +4,7 @@
 pub mod answer;
 pub mod file;
 pub mod plan;
+pub mod reader;
 pub mod record;
 pub mod table;
 pub mod tick;

@@ -1,0 +1,18 @@
+use mathlib.Core.Path.{ap}
+use borrow.Author.Needs.{needs}
+use Rattle.fleet.specs.declared.record.Record.{Record}
+use Rattle.fleet.specs.declared.reader.Handed.{Handed}
+use Rattle.fleet.specs.declared.answer.Answer.the-variants.{Refused}
+use Rattle.fleet.specs.Reader.{withheld}
+use Rattle.fleet.proofs.reader.withheld.Statement.{statement}
+use Rattle.fleet.proofs.reader.withheld.Tie as tie
+
+blank-requires : tie.Need-blank-requires
+blank-requires c κs = search needs
+
+returns : tie.Need-returns
+unfolding withheld
+returns c = simp (c .blank .ensures)
+
+pub withheld-spec : {M : Type 1} → statement M
+withheld-spec = tie.close (tie.spec blank-requires returns)

@@ -1,0 +1,42 @@
+-- A reader over a lent fleet file, which hands out one record at a time, by index.
+use Prim.Native.Nat.{ℕ, _*_, _/_}
+use mathlib.Core.List.{List}
+use lib.ListN.{length, drop}
+use denote.Ref.{RefT}
+use Rattle.fleet.specs.declared.answer.Refusal.{Refusal}
+use Rattle.fleet.specs.declared.answer.Answer.the-variants as answer
+use Rattle.fleet.specs.declared.answer.Verdict.{Verdict}
+use Rattle.fleet.specs.declared.answer.Verdict.the-variants.{Passed, Refused}
+use Rattle.fleet.specs.declared.record.Record.{Record}
+use Rattle.fleet.specs.declared.reader.RecordReader.{RecordReader}
+use Rattle.fleet.specs.declared.reader.Handed.{Handed}
+use Rattle.fleet.specs.Answer.{_⊳_}
+use Rattle.fleet.specs.Record.{perRecord, blank, recordVerdict}
+use Rattle.fleet.specs.Table.{agentAmong}
+use Rattle.fleet.specs.File.{recordBytes, recordIn, wholeFile}
+
+-- a reader is its file, by reference, and an index
+abbrev pub readerAt : RefT (List ℕ) → ℕ → RecordReader
+readerAt file index = record { file = file; index = index }
+
+-- the record at an index of a file
+abbrev pub recordAt : List ℕ → ℕ → Record
+recordAt file index = recordIn (drop (recordBytes * index) file)
+
+-- 14, then 8, then that record's checks, with places as in load
+unfoldable pub storedVerdict : List ℕ → ℕ → Verdict
+storedVerdict file index =
+    wholeFile (length file)
+    ⊳ agentAmong (length file / recordBytes) index
+    ⊳ recordVerdict (perRecord * index) (recordAt file index)
+
+unfoldable pub withheld : Refusal → Handed
+withheld refusal = record { answer = answer.Refused refusal; stored = blank }
+
+-- the record where the checks passed, and a blank one where they refused it
+unfoldable pub handedOut : Verdict → Record → Handed
+handedOut Passed r = record { answer = answer.Done; stored = r }
+handedOut (Refused refusal) r = withheld refusal
+
+unfoldable pub handedAt : List ℕ → ℕ → Handed
+handedAt file index = handedOut (storedVerdict file index) (recordAt file index)
