@@ -1,7 +1,11 @@
-// Reads a fleet file from standard input, runs one tick of 0.5 by the near rule, and prints a line for each
-// agent: its index, three positions and three velocities, as 8 lower-case hex digits of their bits. Where a
-// call is refused, the one line is `refused N P`, of the first such call. A file that can't be read is said on
-// standard error.
+// Reads a fleet file, runs one tick of 0.5 by the near rule, and prints a line for each agent: its index, three
+// positions and three velocities, as 8 lower-case hex digits of their bits. Where a call is refused, the one line
+// is `refused N P`, of the first such call.
+//
+//     onetick [FILE ..]     standard input, or each file in turn; `-` is standard input
+//
+// The line `file NAME` stands before what comes of a file that is named. A file that can't be read is said on
+// standard error, and the next one goes on.
 use fleet::answer::Answer;
 use fleet::answer::Refusal;
 use fleet::table::Called;
@@ -10,14 +14,14 @@ use fleet::table::Rule;
 use libc::STDIN_FILENO;
 use libc::STDOUT_FILENO;
 
-// What one more read of standard input finds.
+// What one more read of an input finds.
 enum More {
     Bytes(usize),
     End,
     Failed,
 }
 
-// How many bytes standard input had in all.
+// How many bytes an input had in all.
 enum Length {
     Whole(usize),
     Failed,
@@ -121,9 +125,9 @@ fn run(file: &[u8]) {
     }
 }
 
-fn read_more() -> More {
+fn read_more(input: i32) -> More {
     let mut buffer = io::large_buffer();
-    let got = libc::read(STDIN_FILENO, &mut buffer);
+    let got = libc::read(input, &mut buffer);
     if got < 0 {
         return More::Failed;
     }
@@ -142,13 +146,13 @@ fn sum(length: usize, more: usize) -> usize {
     }
 }
 
-// The length of standard input, of which `first` bytes are read. A proved loop has to end, and nothing says
-// that a file does: it counts its turns down, from a number that no run uses up.
-fn whole_length(first: usize) -> Length {
+// The length of an input, of which `first` bytes are read. A proved loop has to end, and nothing says that a file
+// does: it counts its turns down, from a number that no run uses up.
+fn whole_length(input: i32, first: usize) -> Length {
     let mut length = first;
     let mut turns = u64::MAX;
     while 0 < turns {
-        match read_more() {
+        match read_more(input) {
             More::Bytes(more) => {
                 length = sum(length, more);
             }
@@ -164,13 +168,14 @@ fn whole_length(first: usize) -> Length {
     Length::Whole(length)
 }
 
-fn main() {
+// Runs what an input has; the name is for an error alone.
+fn run_input(input: i32, name: &[u8]) {
     // More than 64 records: what is longer is refused for its length alone.
     let mut file = io::large_buffer();
-    let first = io::read_full(STDIN_FILENO, &mut file);
-    match whole_length(first) {
+    let first = io::read_full(input, &mut file);
+    match whole_length(input, first) {
         Length::Failed => {
-            os::fail(b"standard input");
+            os::fail(name);
         }
         Length::Whole(length) => {
             if first < length {
@@ -179,5 +184,50 @@ fn main() {
                 run(&file[..first]);
             }
         }
+    }
+}
+
+fn run_file(name: &[u8]) {
+    let input = os::open_read(name);
+    if input < 0 {
+        os::fail(name);
+        return;
+    }
+    run_input(input, name);
+    libc::close(input);
+}
+
+fn is_standard_input(name: &[u8]) -> bool {
+    if name.len() == 1 {
+        name[0] == b'-'
+    } else {
+        false
+    }
+}
+
+// An argument that is too long for a name is read as an empty one, which no file has.
+fn run_argument(index: usize) {
+    let mut space = io::buffer();
+    let length = os::arg(index, &mut space);
+    let name = &space[..length];
+    say(b"file ");
+    say(name);
+    say(b"\n");
+    if is_standard_input(name) {
+        run_input(STDIN_FILENO, name);
+    } else {
+        run_file(name);
+    }
+}
+
+fn main() {
+    let count = os::arg_count();
+    if count < 2 {
+        run_input(STDIN_FILENO, b"standard input");
+    }
+    let mut index = 1;
+    while index < count {
+        run_argument(index);
+        index += 1;
     }
 }

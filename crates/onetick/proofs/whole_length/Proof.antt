@@ -4,10 +4,10 @@ use Rattle.onetick.proofs.whole_length.Statement.{statement}
 use Rattle.onetick.proofs.whole_length.Tie as tie
 
 abbrev Inv-loop : tie.InvT-loop
-Inv-loop first length₀ turns₀ length turns = turns ≤ turns₀
+Inv-loop input first length₀ turns₀ length turns = turns ≤ turns₀
 
 abbrev μ-loop : tie.MeasureT-loop
-μ-loop first length₀ turns₀ length turns = turns
+μ-loop input first length₀ turns₀ length turns = turns
 
 loop-holds : tie.Need-loop-holds Inv-loop μ-loop
 loop-holds c = search needs

@@ -1,0 +1,55 @@
+-- `onetick::main` is safe and ends. The measure is the arguments that are left.
+-- Assumes nothing.
+use Prim.Native.Nat.{_-_, _≤_}
+use borrow.Author.Needs.{needs}
+use Rattle.onetick.proofs.main.Statement.{statement}
+use Rattle.onetick.proofs.main.Tie as tie
+
+abbrev Inv-loop : tie.InvT-loop
+Inv-loop count index₀ index = 1 ≤ index
+
+abbrev μ-loop : tie.MeasureT-loop
+μ-loop count index₀ index = count - index
+
+arg-count-requires : tie.Need-arg-count-requires Inv-loop μ-loop
+arg-count-requires c κs = search needs
+
+slice-aggregate-run-input : tie.Need-slice-aggregate-run-input Inv-loop μ-loop
+slice-aggregate-run-input c = search needs
+
+run-input-requires : tie.Need-run-input-requires Inv-loop μ-loop
+run-input-requires c κs = search needs
+
+loop-holds : tie.Need-loop-holds Inv-loop μ-loop
+loop-holds c = search needs
+
+run-argument-requires : tie.Need-run-argument-requires Inv-loop μ-loop
+run-argument-requires c κs = search needs
+
+add-index : tie.Need-add-index Inv-loop μ-loop
+add-index c = search needs
+
+loop-less : tie.Need-loop-less Inv-loop μ-loop
+loop-less c = search needs
+
+loop-again : tie.Need-loop-again Inv-loop μ-loop
+loop-again c = search needs
+
+returns : tie.Need-returns Inv-loop μ-loop
+returns c = search needs
+
+pub main-spec : {M : Type 1} → statement M
+main-spec =
+    tie.close
+    (tie.spec
+    Inv-loop
+    μ-loop
+    arg-count-requires
+    slice-aggregate-run-input
+    run-input-requires
+    loop-holds
+    run-argument-requires
+    add-index
+    loop-less
+    loop-again
+    returns)
