@@ -3,6 +3,7 @@
 --     answered-0: answer 0 if and only if none holds
 --     lowest-place: the place of answers 3 and 4 is the lowest of a number that is bad
 --     lowest-plane: the neighbour of answer 6 is the lowest whose plane is not finite
+--     refused-zeros: a refused velocity is three zeros
 --     by-conditions: the answer is the number of the first condition that holds, for the layers above
 --     scratch-unread: of scratch only the length is read
 --     same-call: two calls that meet the promise answer alike and leave the same scratch
@@ -16,6 +17,7 @@ use lib.Dec.{ltb}
 use lib.ListN.{length, getD, take, drop, replicate}
 use lib.Ieee.{Float}
 use Rattle.vectors.specs.Promise.{determined}
+use Rattle.vectors.specs.Vec3.{zeroVec}
 use Rattle.solver.specs.declared.plane.Plane.{Plane}
 use Rattle.avoidance.specs.declared.checks.Request.{Request}
 use Rattle.avoidance.specs.declared.checks.Asked.{Asked}
@@ -28,10 +30,11 @@ use Rattle.solver.specs.declared.three_d.Outcome.{Outcome}
 use Rattle.solver.specs.declared.three_d.Outcome.the-variants.{Feasible, Infeasible, BadClamp}
 use Rattle.solver.specs.declared.solve.Solution.{Solution}
 use Rattle.avoidance.specs.declared.velocity.Reply.{Reply}
+use Rattle.avoidance.specs.declared.velocity.Reply.the-variants as reply
 use Rattle.avoidance.specs.declared.velocity.Reply.the-variants.{NoVelocity}
 use Rattle.avoidance.specs.Checks.{numbersOf, bad, firstBad, firstOf, badNeighbours, badFallback, neighbourCount, scratchFor, unless, checks}
 use Rattle.solver.specs.Solve.{solve}
-use Rattle.avoidance.specs.Velocity.{planesOfCall, finiteVec, finitePlane, firstPlane, plusZeros, answered, replyOf, fromPlanes, afterChecks, plannedReply, velocityCall, scratchAfter, number}
+use Rattle.avoidance.specs.Velocity.{planesOfCall, finiteVec, finitePlane, firstPlane, plusZeros, answered, replyOf, fromPlanes, afterChecks, plannedReply, velocityCall, scratchAfter, number, velocityOf}
 use Rattle.avoidance.specs.Refusals.{FirstHolds, some, badOnes, badPlanes, badClamp, noVelocity, conditions}
 
 -- ---- the first condition that holds
@@ -202,6 +205,19 @@ pub answered-0 : (request : Request) (neighbours : List Float) (k : ℕ) → (nu
 answered-0 request neighbours k =
     let (to, from) = none-found 0 (conditions request neighbours k) in
     (λ e. to (sym (by-conditions request neighbours k) ∙ e), λ e. by-conditions request neighbours k ∙ from e)
+
+-- a refused velocity is three zeros
+pub refused-zeros : (reply : Reply) → (number reply ≡ 0 → ⊥) → velocityOf reply ≡ zeroVec
+unfolding number velocityOf
+refused-zeros (reply.Free v) refused = absurd (refused refl)
+refused-zeros (reply.Relaxed v k) refused = absurd (refused refl)
+refused-zeros reply.BadNeighbours refused = refl
+refused-zeros (reply.ShortScratch needed) refused = refl
+refused-zeros (reply.NotFinite place) refused = refl
+refused-zeros (reply.OutOfRange place) refused = refl
+refused-zeros reply.BadFallback refused = refl
+refused-zeros (reply.PlaneNotFinite neighbour) refused = refl
+refused-zeros reply.NoVelocity refused = refl
 
 -- what scratch held before alters no answer
 pub scratch-unread : (request : Request) (neighbours before other : List Float) → length before ≡ length other → velocityCall request neighbours (length before) ≡ velocityCall request neighbours (length other)

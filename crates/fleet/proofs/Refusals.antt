@@ -1,5 +1,6 @@
 -- Each refusal of a table call is given exactly when document 01 says, and leaves the table as it was.
 --     refused-8 … refused-15: answer N if and only if N's condition is the first that holds; `exactly` says it of every number
+--     refused-zeros: a refused velocity is three zeros
 --     refused-unchanged: a call that is refused hands back the very fleet that it was given, whichever call it is
 use mathlib.Core.Path.{_≡_, refl, sym, ap, _∙_}
 use mathlib.Core.Bool.{Bool, true, false, not, _&&_, _||_, cond}
@@ -13,6 +14,7 @@ use lib.Ieee.{Float}
 use borrow.Author.Tests.{ltb-true, ltb-false, leb-true, leb-false, eqb-true, eqb-false, lt-ltb, le-ltb, le-leb, lt-leb, eq-eqb, ne-eqb}
 use Rattle.vectors.specs.declared.Vec3.{Vec3}
 use Rattle.vectors.specs.Number.{_>ᶠ_, finite, zero as zero32}
+use Rattle.vectors.specs.Vec3.{zeroVec}
 use Rattle.avoidance.specs.declared.checks.Asked.{Asked}
 use Rattle.avoidance.specs.declared.checks.Asked.the-variants.{Finite, InRange}
 use Rattle.avoidance.specs.declared.checks.Found.{Found}
@@ -25,8 +27,10 @@ use Rattle.avoidance.specs.Velocity as velocity
 use Rattle.avoidance.specs.Refusals.{some}
 use Rattle.avoidance.specs.Refusals as velocity-conditions
 use Rattle.avoidance.proofs.Refusals.{firstAt, indexOf, by-conditions}
+use Rattle.avoidance.proofs.Refusals as of-reply
 use Rattle.fleet.specs.declared.answer.Refusal.{Refusal}
 use Rattle.fleet.specs.declared.answer.Refusal.the-variants as refusal
+use Rattle.fleet.specs.declared.answer.Answer.{Answer}
 use Rattle.fleet.specs.declared.answer.Answer.the-variants as answer
 use Rattle.fleet.specs.declared.answer.Verdict.{Verdict}
 use Rattle.fleet.specs.declared.answer.Verdict.the-variants.{Passed, Refused}
@@ -37,7 +41,7 @@ use Rattle.fleet.specs.declared.table.Tick.{Tick}
 use Rattle.fleet.specs.declared.table.Tick.the-variants.{Shut, Open}
 use Rattle.fleet.specs.declared.table.Fleet.{Fleet}
 use Rattle.fleet.specs.declared.table.Called.{Called}
-use Rattle.fleet.specs.Answer.{mostAgents, numberOfRefusal, number, _⊳_, refusedAt}
+use Rattle.fleet.specs.Answer.{mostAgents, numberOfRefusal, number, velocityOf, _⊳_, refusedAt}
 use Rattle.fleet.specs.Record.{wordAt, fallbackOf, badMargin, bad, firstBad, recordVerdict}
 use Rattle.fleet.specs.Table.{agents, settled, shut, agentAmong, agentAt, room, addVerdict, addCall, putVerdict, putCall, removeVerdict, removeCall, answerTo, readCall}
 use Rattle.fleet.specs.File.{recordBytes, recordsOf, wholeFile, recordsVerdict, loadVerdict, loadCall}
@@ -345,6 +349,14 @@ refused-14 = exactly 13
 
 pub refused-15 : Exactly 14
 refused-15 = exactly 14
+
+-- ---- a refused velocity is three zeros
+
+pub refused-zeros : (given : Answer) → (number given ≡ 0 → ⊥) → velocityOf given ≡ zeroVec
+unfolding number velocityOf
+refused-zeros answer.Done refused = refl
+refused-zeros (answer.Plan replied) refused = of-reply.refused-zeros replied refused
+refused-zeros (answer.Refused why) refused = refl
 
 -- ---- a refused call leaves the table unchanged
 
