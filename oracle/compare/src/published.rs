@@ -153,6 +153,11 @@ fn out_of_range(place: usize, x: f32) -> bool {
     }
 }
 
+/// Whether document 01 takes it for a fallback direction, answer 5 not being due.
+pub fn is_direction([x, y, z]: [f32; 3]) -> bool {
+    (0.99999..=1.00001).contains(&((x * x + y * y) + z * z))
+}
+
 /// The refusals that need no plane: lengths, and document 01's 1 to 5, with their places.
 fn refusal(case: &Case) -> Option<(u32, u64)> {
     if case.request.len() != REQUEST || case.velocity.len() != VELOCITY {
@@ -171,9 +176,7 @@ fn refusal(case: &Case) -> Option<(u32, u64)> {
     if let Some(place) = first_bad(case, out_of_range) {
         return Some((4, place));
     }
-    let [x, y, z] = case.vector(FALLBACK);
-    let square = (x * x + y * y) + z * z;
-    if square < 0.99999 || square > 1.00001 {
+    if !is_direction(case.vector(FALLBACK)) {
         return Some((5, FALLBACK as u64));
     }
     None

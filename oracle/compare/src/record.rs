@@ -1,8 +1,8 @@
 //! A stored agent: document 01's 19 words.
 use dodgy_3d::{Agent, AgentParameters, SimulatorMargin, Vec3};
 
-use crate::case::AGENT;
-use crate::published::{agent, vector};
+use crate::case::{AGENT, RADIUS, RESPONSIBILITY};
+use crate::published::{agent, is_direction, vector};
 
 /// The words of a record.
 pub const WORDS: usize = 19;
@@ -56,6 +56,20 @@ impl Record {
 
     pub fn goal(&self) -> Vec3 {
         vector(&self.numbers::<3>(GOAL))
+    }
+
+    /// Whether a table takes it: document 01's checks 15, 3, 4 and 5.
+    pub fn is_accepted(&self) -> bool {
+        let margin = match self.words[MARGIN] {
+            0 => self.words[DISTANCE] == 0,
+            word => word == 1,
+        };
+        let finite = self.numbers::<WORDS>(0).iter().all(|x| x.is_finite());
+        let in_range = [RADIUS, RESPONSIBILITY, MAX_SPEED]
+            .iter()
+            .all(|&place| self.number(place) >= 0.0)
+            && self.number(HORIZON) > 0.0;
+        margin && finite && in_range && is_direction(self.numbers(FALLBACK))
     }
 
     pub fn parameters(&self) -> AgentParameters {

@@ -10,7 +10,7 @@ use std::{env, io};
 
 use compare::flights::{draw, Flight, Goal, Step, KINDS};
 use compare::published::catch_quietly;
-use compare::record::WORDS;
+use compare::record::{Record, WORDS};
 use compare::replay::lines;
 use compare::simulated::{outcome, Counts, Outcome};
 
@@ -91,7 +91,8 @@ fn without(flight: &Flight, agent: usize) -> Flight {
 }
 
 /// The smallest flight found that differs too: one tick, with agents left out and words made 0, as long as the
-/// two still differ.
+/// fleet can be loaded and the two still differ, and in the same way: an agent left out may leave an idle close
+/// that is accepted.
 fn smallest(
     command: &[String],
     flight: &Flight,
@@ -99,7 +100,12 @@ fn smallest(
     part: usize,
 ) -> io::Result<Flight> {
     let differs = |flight: &Flight| {
-        Ok::<bool, io::Error>(difference(command, flight, &outcome(flight))?.is_some())
+        let wanted = outcome(flight);
+        Ok::<bool, io::Error>(
+            flight.records.iter().all(Record::is_accepted)
+                && wanted.surprise.is_some() == outcome_of.surprise.is_some()
+                && difference(command, flight, &wanted)?.is_some(),
+        )
     };
     let mut least = flight.clone();
     if let Some(one) = alone(flight, outcome_of, part) {
@@ -117,8 +123,7 @@ fn smallest(
         for place in 0..WORDS {
             let mut less = least.clone();
             less.records[agent].words[place] = 0;
-            // document 01 refuses a record with no fallback or horizon
-            if outcome(&less).surprise.is_none() && differs(&less)? {
+            if differs(&less)? {
                 least = less;
             }
         }
