@@ -1,5 +1,6 @@
-//! Flights: a fleet, and ticks in which its goals change, drawn by chance from a seed and a number.
-use crate::case::{MOST_NEIGHBOURS, RADIUS, SCRATCH};
+//! Flights drawn by chance from a seed and a number.
+use crate::calls::{Call, Flight, Rule, ENOUGH};
+use crate::case::{RADIUS, SCRATCH};
 use crate::published::BY_CHANCE;
 use crate::random::Random;
 use crate::record::*;
@@ -31,48 +32,11 @@ const SHARES: [Kind; 8] = [
     Kind::Scaled,
 ];
 
-pub const MOST_AGENTS: usize = 64;
+/// What a flight's ticks choose from.
+const RULES: [&[Rule]; 3] = [&[Rule::Source], &[Rule::Near], &[Rule::Source, Rule::Near]];
+
+const MOST_AGENTS: usize = 64;
 const MOST_TICKS: usize = 40;
-/// Scratch for every plan.
-const ENOUGH: usize = SCRATCH * MOST_NEIGHBOURS;
-
-/// An agent's new goal.
-#[derive(Clone, Copy, Debug)]
-pub struct Goal {
-    pub agent: usize,
-    pub to: [f32; 3],
-}
-
-/// A call in an open tick.
-#[derive(Clone, Copy, Debug)]
-pub enum Step {
-    /// on a scratch of that length
-    Plan {
-        agent: usize,
-        scratch: usize,
-    },
-    Goal(Goal),
-    Read(usize),
-    /// Some agent is unplanned, and so it is refused.
-    Close,
-    /// A tick is open, and so they are refused.
-    Open,
-    Remove(usize),
-}
-
-#[derive(Clone, Debug)]
-pub struct Tick {
-    pub time_step: f32,
-    /// The goals set before the tick is opened.
-    pub before: Vec<Goal>,
-    pub steps: Vec<Step>,
-}
-
-#[derive(Clone)]
-pub struct Flight {
-    pub records: Vec<Record>,
-    pub ticks: Vec<Tick>,
-}
 
 /// The flight of a number.
 pub fn draw(seed: u64, index: u64) -> (Kind, Flight) {
@@ -98,8 +62,11 @@ fn count(random: &Random) -> usize {
     }
 }
 
-/// What the agents of a flight have in common.
+/// What the agents and the ticks of a flight have in common.
 struct Field {
+    rules: &'static [Rule],
+    /// One call in so many is an idle one.
+    idle: usize,
     whole: bool,
     half: [f32; 3],
     scale: f32,
@@ -112,6 +79,8 @@ impl Field {
     fn of(random: &Random, kind: Kind, count: usize) -> Field {
         let narrow = [random.between(0.3, 1.5) * ((count + 1) as f32).cbrt(); 3];
         let crowd = Field {
+            rules: random.pick(&RULES),
+            idle: random.pick(&[2, 6, 20]),
             whole: false,
             half: narrow,
             scale: 1.0,
@@ -194,76 +163,96 @@ impl Field {
         record
     }
 
-    fn goals(&self, random: &Random, count: usize) -> Vec<Goal> {
+    fn open(&self, random: &Random) -> Call {
+        Call::Open {
+            time_step: random.pick(&[0.02, 0.1, 0.25, 0.5, 1.0]),
+            rule: random.pick(self.rules),
+        }
+    }
+
+    /// In one of three times some goals, of two agents at most.
+    fn goals(&self, random: &Random, count: usize) -> Vec<Call> {
         if count == 0 || !random.one_in(3) {
             return Vec::new();
         }
+        let agents = [0; 2].map(|_: i32| random.below(count));
         (0..1 + random.below(4))
-            .map(|_| Goal {
-                agent: random.below(count),
+            .map(|_| Call::Goal {
+                agent: random.pick(&agents),
                 to: self.point(random),
             })
             .collect()
     }
 
-    /// A call that changes nothing, by document 01. It plans no agent but the `earlier` ones.
-    fn idle(&self, random: &Random, earlier: &[usize], count: usize) -> Step {
+    /// A plan on a scratch that may be too short, by as little as one number.
+    fn scant_plan(&self, random: &Random, agent: usize, count: usize) -> Call {
+        let scratch = (SCRATCH * random.below(count)).saturating_sub(random.below(2));
+        Call::Plan { agent, scratch }
+    }
+
+    /// A call in a tick that changes nothing, by document 01, as long as some agent is unplanned. It plans no agent
+    /// but the `earlier` ones, which are planned anyway.
+    fn idle(&self, random: &Random, earlier: &[usize], count: usize) -> Call {
         let somebody = random.below(count);
-        let nobody = count + random.below(3);
+        let nobody = random.pick(&[count, count + 1, MOST_AGENTS, u32::MAX as usize]);
         let mut to = self.point(random);
         match random.below(8) {
-            0 => Step::Plan {
-                agent: random.pick(earlier),
-                scratch: random.below(ENOUGH + 1),
-            },
-            1 => Step::Plan {
+            0 if !earlier.is_empty() => self.scant_plan(random, random.pick(earlier), count),
+            1 => Call::Plan {
                 agent: nobody,
                 scratch: ENOUGH,
             },
             2 => {
-                to[random.below(3)] = random.pick(&[f32::NAN, f32::INFINITY]);
-                Step::Goal(Goal {
-                    agent: somebody,
-                    to,
-                })
+                let infinity = random.pick(&[f32::INFINITY, f32::NEG_INFINITY]);
+                to[random.below(3)] = random.pick(&[f32::NAN, infinity]);
+                let agent = somebody;
+                Call::Goal { agent, to }
             }
-            3 => Step::Goal(Goal { agent: nobody, to }),
-            4 => Step::Read(random.pick(&[somebody, nobody])),
-            5 => Step::Close,
-            6 => Step::Open,
-            _ => Step::Remove(random.pick(&[somebody, nobody])),
+            3 => Call::Goal { agent: nobody, to },
+            4 => Call::Read(random.pick(&[somebody, nobody])),
+            5 => Call::Close,
+            6 => self.open(random),
+            _ => Call::Remove(random.pick(&[somebody, nobody])),
         }
     }
 
     /// Every agent planned, in an order drawn by chance, with idle calls between and goals anywhere.
-    fn steps(&self, random: &Random, count: usize) -> Vec<Step> {
+    fn steps(&self, random: &Random, count: usize) -> Vec<Call> {
         let mut order: Vec<usize> = (0..count).collect();
         for last in (1..count).rev() {
             order.swap(last, random.below(last + 1));
         }
+        let scratch = ENOUGH;
         let mut steps = Vec::new();
         for &agent in &order {
-            // The last one stays unplanned until then, so that no idle close is accepted.
-            while count > 1 && random.one_in(6) {
+            // The last one stays unplanned until then.
+            while random.one_in(self.idle) {
                 steps.push(self.idle(random, &order[..count - 1], count));
             }
-            steps.push(Step::Plan {
-                agent,
-                scratch: ENOUGH,
-            });
+            steps.push(Call::Plan { agent, scratch });
+        }
+        while count > 0 && random.one_in(self.idle) {
+            steps.push(self.scant_plan(random, random.below(count), count));
         }
         for goal in self.goals(random, count) {
-            steps.insert(random.below(steps.len() + 1), Step::Goal(goal));
+            steps.insert(random.below(steps.len() + 1), goal);
         }
         steps
     }
 
-    fn tick(&self, random: &Random, count: usize) -> Tick {
-        Tick {
-            time_step: random.pick(&[0.02, 0.1, 0.25, 0.5, 1.0]),
-            before: self.goals(random, count),
-            steps: self.steps(random, count),
+    /// A tick that is closed, or in one of six times dropped early, and goals after it. A drop ends it where it can't be
+    /// closed.
+    fn tick(&self, random: &Random, count: usize) -> Vec<Call> {
+        let mut calls = vec![self.open(random)];
+        calls.extend(self.steps(random, count));
+        if random.one_in(6) {
+            calls.truncate(1 + random.below(calls.len()));
+        } else {
+            calls.push(Call::Close);
         }
+        calls.push(Call::Drop);
+        calls.extend(self.goals(random, count));
+        calls
     }
 }
 

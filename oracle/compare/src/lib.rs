@@ -6,8 +6,9 @@
 //! can be drawn again by itself. What has to come of them is worked out by `published`: from dodgy_3d,
 //! and from document 01's table where that refuses and the Rust does not.
 //!
-//! The fleet table is compared with the published Simulator in the same way: `flights` draws fleets and ticks,
-//! `simulated` works out what has to come of them, and `replay` has the program of that name make the calls.
+//! The fleet table is compared with the published Simulator in the same way: `flights` draws fleets and the `calls`
+//! on them, `simulated` works out what has to come of these, and `replay` has the program of that name make them.
+pub mod calls;
 pub mod case;
 pub mod flights;
 pub mod inputs;

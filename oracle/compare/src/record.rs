@@ -42,7 +42,7 @@ impl Record {
         }
     }
 
-    pub fn set_vector(&mut self, place: usize, v: Vec3) {
+    fn set_vector(&mut self, place: usize, v: Vec3) {
         self.set(place, &[v.x, v.y, v.z]);
     }
 
@@ -52,6 +52,10 @@ impl Record {
 
     pub fn position(&self) -> Vec3 {
         vector(&self.numbers::<3>(POSITION))
+    }
+
+    pub fn velocity(&self) -> Vec3 {
+        vector(&self.numbers::<3>(VELOCITY))
     }
 
     pub fn goal(&self) -> Vec3 {
@@ -70,6 +74,14 @@ impl Record {
             .all(|&place| self.number(place) >= 0.0)
             && self.number(HORIZON) > 0.0;
         margin && finite && in_range && is_direction(self.numbers(FALLBACK))
+    }
+
+    /// With that velocity, and moved by it: what a close makes of it.
+    pub fn moved(&self, velocity: Vec3, time_step: f32) -> Record {
+        let mut moved = *self;
+        moved.set_vector(VELOCITY, velocity);
+        moved.set_vector(POSITION, self.position() + velocity * time_step);
+        moved
     }
 
     pub fn parameters(&self) -> AgentParameters {

@@ -1,111 +1,49 @@
-//! What has to come of a flight: the published Simulator's positions and velocities after every tick, and the
-//! published answer to each plan by itself, or document 01's refusal.
-use dodgy_3d::{Simulator, Vec3};
+//! What has to come of a flight: document 01's table, in which each plan is the published velocity call. By the source
+//! rule the published Simulator flies beside it, and has to come to the same numbers.
+use std::collections::BTreeMap;
+use std::mem;
 
+use dodgy_3d::{Agent, Simulator, Vec3};
+
+use crate::calls::{Call, Flight, Rule, ENOUGH};
 use crate::case::{Case, Reply, NO_PLANE};
-use crate::flights::{Flight, Goal, Step, Tick};
-use crate::published::{caught, expected, Expected};
+use crate::published::{caught, expected, vector, Expected};
 use crate::record::*;
 
-/// A line of replay's.
-#[derive(Clone, Debug)]
-pub enum Line {
-    /// As it stands.
-    Text(String),
-    /// An agent's words: the position as numbers, and all else by bits.
-    Record(Record),
-}
+/// How often what was seen.
+pub type Counts = BTreeMap<String, u64>;
 
-impl Line {
-    fn done() -> Line {
-        Line::Text("done".into())
-    }
+/// What is counted of an accepted close begins with this.
+pub const CLOSED: &str = "close by the";
 
-    fn refused(number: usize, place: usize) -> Line {
-        Line::Text(format!("refused {number} {place}"))
-    }
-
-    pub fn text(&self) -> String {
-        match self {
-            Line::Text(text) => text.clone(),
-            Line::Record(record) => record.text(),
-        }
-    }
-
-    pub fn is(&self, got: &str) -> bool {
-        match self {
-            Line::Text(text) => text == got,
-            Line::Record(record) => read_record(got).is_some_and(|words| same(record, &words)),
-        }
-    }
-}
-
-fn read_record(line: &str) -> Option<Record> {
-    let words: Result<Vec<u32>, _> = line
-        .split(' ')
-        .map(|w| u32::from_str_radix(w, 16))
-        .collect();
-    let words = words.ok()?.try_into().ok()?;
-    Some(Record { words })
-}
-
-fn same(wanted: &Record, got: &Record) -> bool {
-    wanted.numbers::<3>(POSITION) == got.numbers::<3>(POSITION)
-        && wanted.words[VELOCITY..] == got.words[VELOCITY..]
-}
-
-/// What was counted of plans and ticks.
-#[derive(Clone, Copy, Default)]
-pub struct Counts {
-    pub ticks: u64,
-    pub free: u64,
-    pub relaxed: u64,
-    pub neighbours: u64,
-    /// calls by their refusals' numbers
-    pub refused: [u64; 16],
-    /// ticks that can't be closed: where the Rust panics, and where it goes on
-    pub panicked: u64,
-    pub went_on: u64,
-    /// directions that the Simulator took by chance, each from two numbers
-    pub by_chance: u64,
-}
-
-impl Counts {
-    pub fn add(&mut self, other: &Counts) {
-        self.ticks += other.ticks;
-        self.free += other.free;
-        self.relaxed += other.relaxed;
-        self.neighbours += other.neighbours;
-        for (sum, n) in self.refused.iter_mut().zip(other.refused) {
-            *sum += n;
-        }
-        self.panicked += other.panicked;
-        self.went_on += other.went_on;
-        self.by_chance += other.by_chance;
-    }
-}
-
-/// The lines of a part of a flight, and the records before it.
+/// The lines of a part of a flight, and the records before it. Where the Rust does what document 01 does not foresee,
+/// the line says so; replay prints no such line, and the two differ there.
 pub struct Part {
     pub before: Vec<Record>,
-    pub lines: Vec<Line>,
+    pub lines: Vec<String>,
 }
 
 pub struct Outcome {
-    /// The load; each tick; the fleet at the end. A tick that is refused is the last.
+    /// The load; each tick; the fleet at the end.
     pub parts: Vec<Part>,
+    /// The flight in the canonical order.
+    pub canonical: Flight,
     pub counts: Counts,
-    /// What the Rust did that document 01 does not foresee.
-    pub surprise: Option<String>,
 }
 
-/// The indices of the others that the source rule keeps: simulator.rs passes over those that are near.
-fn neighbours(records: &[Record], index: usize) -> Vec<usize> {
+/// The indices of the others that a rule keeps.
+fn neighbours(records: &[Record], index: usize, rule: Rule) -> Vec<usize> {
     let own = &records[index];
     let query = own.number(MAX_SPEED) * own.number(HORIZON) + own.agent().radius * 2.0;
     (0..records.len())
-        .filter(|&other| other != index)
-        .filter(|&other| own.position().distance_squared(records[other].position()) > query * query)
+        .filter(|&other| {
+            let square = own.position().distance_squared(records[other].position());
+            let kept = match rule {
+                Rule::Source => square > query * query,
+                Rule::Near => square <= query * query,
+            };
+            other != index && kept
+        })
         .collect()
 }
 
@@ -146,198 +84,271 @@ fn plan_line(reply: &Reply, kept: &[usize]) -> String {
     }
 }
 
-/// What is held in a tick.
-struct Held {
-    planned: Vec<bool>,
-    goals: Vec<Goal>,
-}
-
-impl Held {
-    fn first_unplanned(&self) -> Option<usize> {
-        self.planned.iter().position(|&is| !is)
+fn simulator(records: &[Record]) -> Simulator {
+    let mut simulator = Simulator::new();
+    for record in records {
+        simulator.add_agent(record.agent(), record.parameters());
     }
+    simulator
 }
 
-/// The fleet on both sides: what stands in ours, and the published one.
+/// Has the Simulator make a step, which has to come to our positions and velocities, as numbers.
+fn step(simulator: &mut Simulator, time_step: f32, moved: &[Record]) -> Result<(), String> {
+    caught(|| simulator.step(time_step))
+        .map_err(|message| format!("the Simulator panicked: {message}"))?;
+    for (index, record) in moved.iter().enumerate() {
+        let Agent {
+            position, velocity, ..
+        } = simulator.get_agent(index);
+        if (*position, *velocity) != (record.position(), record.velocity()) {
+            let message = format!("the Simulator has agent {index} at {position:?}, {velocity:?}");
+            return Err(message);
+        }
+    }
+    Ok(())
+}
+
+/// An open tick.
+#[derive(Clone)]
+struct Tick {
+    time_step: f32,
+    rule: Rule,
+    /// the velocity planned for each agent
+    plans: Vec<Option<Vec3>>,
+    /// agents and their goals, in call order
+    held: Vec<(usize, [f32; 3])>,
+}
+
+/// The table by document 01, and the published one.
 struct Fleet {
     records: Vec<Record>,
+    tick: Option<Tick>,
     simulator: Simulator,
+    /// the calls so far that take effect, in the canonical order
+    canonical: Vec<Call>,
     counts: Counts,
 }
 
 impl Fleet {
     fn of(records: &[Record]) -> Fleet {
-        let mut simulator = Simulator::new();
-        for record in records {
-            simulator.add_agent(record.agent(), record.parameters());
-        }
         Fleet {
             records: records.to_vec(),
-            simulator,
-            counts: Counts::default(),
+            tick: None,
+            simulator: simulator(records),
+            canonical: Vec::new(),
+            counts: Counts::new(),
         }
     }
 
-    fn set_goals(&mut self, goals: &[Goal]) {
-        for goal in goals {
-            let [x, y, z] = goal.to;
-            self.simulator
-                .get_agent_parameters_mut(goal.agent)
-                .goal_point = Vec3::new(x, y, z);
-            self.records[goal.agent].set(GOAL, &goal.to);
+    fn count(&mut self, what: impl Into<String>) {
+        self.add(what, 1);
+    }
+
+    fn add(&mut self, what: impl Into<String>, often: u64) {
+        *self.counts.entry(what.into()).or_default() += often;
+    }
+
+    fn tick(&mut self) -> &mut Tick {
+        self.tick
+            .as_mut()
+            .expect("a call is refused where it needs a tick")
+    }
+
+    /// Document 01's refusal, number and place, but for those that plan passes on and for 13.
+    fn refusal(&self, call: &Call) -> Option<(usize, usize)> {
+        let nobody = |agent: usize| (agent >= self.records.len()).then_some((8, agent));
+        match (call, &self.tick) {
+            (Call::Remove(_) | Call::Open { .. }, Some(_)) => Some((10, 0)),
+            (Call::Plan { .. } | Call::Close | Call::Drop, None) => Some((11, 0)),
+            (Call::Remove(agent) | Call::Read(agent) | Call::Plan { agent, .. }, _) => {
+                nobody(*agent)
+            }
+            (Call::Goal { agent, to }, _) => nobody(*agent).or_else(|| {
+                let axis = to.iter().position(|x| !x.is_finite())?;
+                Some((3, GOAL + axis))
+            }),
+            (Call::Close, Some(tick)) => {
+                let unplanned = tick.plans.iter().position(Option::is_none)?;
+                Some((12, unplanned))
+            }
+            (Call::Open { .. }, None) | (Call::Drop, Some(_)) => None,
         }
     }
 
-    /// The line of a plan, and whether it is answered.
-    fn plan(
-        &mut self,
-        index: usize,
-        time_step: f32,
-        scratch: usize,
-    ) -> Result<(Line, bool), String> {
-        let kept = neighbours(&self.records, index);
-        let case = case(&self.records, index, &kept, time_step, scratch);
-        let reply = match expected(&case) {
-            Expected::Reply(reply) | Expected::Panic(reply) => reply,
-            Expected::LeftOut => return Err("a direction by chance is not the fallback".into()),
-            Expected::Surprise(message) => return Err(message),
-        };
-        self.counts.neighbours += kept.len() as u64;
-        match (reply.answer, reply.relaxed) {
-            (0, NO_PLANE) => self.counts.free += 1,
-            (0, _) => self.counts.relaxed += 1,
-            (number, _) => self.counts.refused[number as usize] += 1,
+    fn refused(&mut self, call: &Call, (number, place): (usize, usize)) -> String {
+        self.count(format!("{} refused {number}", call.name()));
+        format!("refused {number} {place}")
+    }
+
+    /// The line that has to come of a call.
+    fn answer(&mut self, call: Call) -> String {
+        if let Some(refusal) = self.refusal(&call) {
+            return self.refused(&call, refusal);
         }
-        Ok((Line::Text(plan_line(&reply, &kept)), reply.answer == 0))
+        match call {
+            Call::Remove(agent) => self.remove(agent),
+            Call::Read(agent) => return self.read(agent),
+            Call::Goal { agent, to } if self.tick.is_some() => self.hold_goal(agent, to),
+            Call::Goal { agent, to } => {
+                self.count("goal at once");
+                self.set_goal(agent, to);
+            }
+            Call::Open { time_step, rule } => self.open(time_step, rule),
+            Call::Plan { agent, scratch } => return self.plan(agent, scratch),
+            Call::Close => return self.close(),
+            Call::Drop => {
+                self.count("drop");
+                self.end(call);
+            }
+        }
+        "done".into()
     }
 
-    fn refused(&mut self, number: usize, place: usize) -> Line {
-        self.counts.refused[number] += 1;
-        Line::refused(number, place)
+    fn remove(&mut self, agent: usize) {
+        self.canonical.push(Call::Remove(agent));
+        self.records.remove(agent);
+        self.simulator = simulator(&self.records);
     }
 
-    /// The line of a call in a tick. What is planned and what goals are held so far is kept up.
-    fn step(&mut self, step: Step, time_step: f32, held: &mut Held) -> Result<Line, String> {
+    fn read(&mut self, agent: usize) -> String {
+        if self.tick.is_some() {
+            self.count("read in a tick");
+        }
+        self.records[agent].text()
+    }
+
+    fn hold_goal(&mut self, agent: usize, to: [f32; 3]) {
+        let again = self.tick().held.iter().any(|held| held.0 == agent);
+        self.count(if again {
+            "goal held again"
+        } else {
+            "goal held"
+        });
+        self.tick().held.push((agent, to));
+    }
+
+    fn set_goal(&mut self, agent: usize, to: [f32; 3]) {
+        self.canonical.push(Call::Goal { agent, to });
+        self.records[agent].set(GOAL, &to);
+        let parameters = self.simulator.get_agent_parameters_mut(agent);
+        parameters.goal_point = vector(&to);
+    }
+
+    fn open(&mut self, time_step: f32, rule: Rule) {
         let count = self.records.len();
-        Ok(match step {
-            Step::Open | Step::Remove(_) => self.refused(10, 0),
-            Step::Plan { agent, .. } | Step::Read(agent) | Step::Goal(Goal { agent, .. })
-                if agent >= count =>
-            {
-                self.refused(8, agent)
-            }
-            Step::Plan { agent, scratch } => {
-                let (line, answered) = self.plan(agent, time_step, scratch)?;
-                held.planned[agent] |= answered;
-                line
-            }
-            Step::Goal(goal) => match goal.to.iter().position(|x| !x.is_finite()) {
-                Some(axis) => self.refused(3, GOAL + axis),
-                None => {
-                    held.goals.push(goal);
-                    Line::done()
-                }
-            },
-            Step::Read(agent) => Line::Record(self.records[agent]),
-            Step::Close => match held.first_unplanned() {
-                Some(agent) => self.refused(12, agent),
-                None => return Err("a flight has an idle close that is accepted".into()),
-            },
-        })
+        self.tick = Some(Tick {
+            time_step,
+            rule,
+            plans: vec![None; count],
+            held: Vec::new(),
+        });
+        self.canonical.push(Call::Open { time_step, rule });
+        let scratch = ENOUGH;
+        let plans = (0..count).map(|agent| Call::Plan { agent, scratch });
+        self.canonical.extend(plans);
     }
 
-    /// The refusal of the close after a step of the Simulator, if it is refused.
-    fn refusal(&self, held: &Held) -> Option<(usize, usize)> {
-        if let Some(agent) = held.first_unplanned() {
-            return Some((12, agent));
-        }
-        let astray = (0..self.records.len()).find(|&agent| {
-            let Vec3 { x, y, z } = self.simulator.get_agent(agent).position;
-            !(x.is_finite() && y.is_finite() && z.is_finite())
-        })?;
-        Some((13, astray))
-    }
-
-    /// Takes the published positions and velocities over, each zero of a velocity as +0.
-    fn take_over(&mut self) {
-        for (index, record) in self.records.iter_mut().enumerate() {
-            let agent = self.simulator.get_agent(index);
-            record.set_vector(POSITION, agent.position);
-            let Vec3 { x, y, z } = agent.velocity;
-            record.set(VELOCITY, &[x + 0.0, y + 0.0, z + 0.0]);
-        }
-    }
-
-    /// The lines of a tick, and whether it is closed. After the close stands a drop, which ends a tick that is not.
-    fn tick(&mut self, tick: &Tick) -> Result<(Vec<Line>, bool), String> {
-        let mut lines = vec![Line::done(); tick.before.len() + 1];
-        self.set_goals(&tick.before);
-        let mut held = Held {
-            planned: vec![false; self.records.len()],
-            goals: Vec::new(),
-        };
-        for &step in &tick.steps {
-            lines.push(self.step(step, tick.time_step, &mut held)?);
-        }
+    fn plan(&mut self, agent: usize, scratch: usize) -> String {
+        let &mut Tick {
+            time_step, rule, ..
+        } = self.tick();
+        let kept = neighbours(&self.records, agent, rule);
+        let what = format!("neighbour by the {} rule", rule.name());
+        self.add(what, kept.len() as u64);
         let asked = rand::calls();
-        let stepped = caught(|| self.simulator.step(tick.time_step));
-        self.counts.by_chance += (rand::calls() - asked) / 2;
-        let refusal = self.refusal(&held);
-        match (refusal, stepped) {
-            (None, Ok(())) => {
-                self.take_over();
-                self.counts.ticks += 1;
-                lines.push(Line::done());
-                lines.push(Line::refused(11, 0));
-            }
-            (None, Err(message)) => return Err(format!("the Simulator panicked: {message}")),
-            (Some((number, agent)), stepped) => {
-                match stepped {
-                    Ok(()) => self.counts.went_on += 1,
-                    Err(_) => self.counts.panicked += 1,
-                }
-                lines.push(self.refused(number, agent));
-                lines.push(Line::done());
+        let reply = match expected(&case(&self.records, agent, &kept, time_step, scratch)) {
+            Expected::Reply(reply) | Expected::Panic(reply) => reply,
+            Expected::LeftOut => return "a direction by chance that is not the fallback".into(),
+            Expected::Surprise(message) => return message,
+        };
+        if rand::calls() > asked {
+            self.count("plan with a direction by chance");
+        }
+        let again = self.tick().plans[agent].is_some();
+        match (reply.answer, reply.relaxed) {
+            (0, _) if again => self.count("plan repeated"),
+            (0, NO_PLANE) => self.count("plan free"),
+            (0, _) => self.count("plan relaxed"),
+            (number, _) if again => self.count(format!("plan refused {number} after an answer")),
+            (number, _) => self.count(format!("plan refused {number}")),
+        }
+        if reply.answer == 0 {
+            let numbers = [0, 1, 2].map(|axis| f32::from_bits(reply.velocity[axis]));
+            self.tick().plans[agent] = Some(vector(&numbers));
+        }
+        plan_line(&reply, &kept)
+    }
+
+    /// A close with all planned.
+    fn close(&mut self) -> String {
+        let Tick {
+            time_step,
+            rule,
+            plans,
+            ..
+        } = self.tick().clone();
+        let moved: Vec<Record> = self
+            .records
+            .iter()
+            .zip(plans.into_iter().flatten())
+            .map(|(record, velocity)| record.moved(velocity, time_step))
+            .collect();
+        if rule == Rule::Source {
+            if let Err(message) = step(&mut self.simulator, time_step, &moved) {
+                return message;
             }
         }
-        self.set_goals(&held.goals);
-        lines.extend(self.records.iter().map(|&record| Line::Record(record)));
-        Ok((lines, refusal.is_none()))
+        // all but the position is as finite as before
+        let astray = moved.iter().position(|record| !record.is_accepted());
+        if astray.is_none() {
+            self.records = moved;
+        }
+        if astray.is_some() || rule == Rule::Near {
+            self.simulator = simulator(&self.records);
+        }
+        if let Some(agent) = astray {
+            return self.refused(&Call::Close, (13, agent));
+        }
+        self.count(format!("{CLOSED} {} rule", rule.name()));
+        self.end(Call::Close);
+        "done".into()
+    }
+
+    /// Ends the tick by that call: the goals that are held take effect.
+    fn end(&mut self, call: Call) {
+        self.canonical.push(call);
+        let held = self.tick.take().map(|tick| tick.held);
+        for (agent, to) in held.into_iter().flatten() {
+            self.set_goal(agent, to);
+        }
     }
 }
 
-/// What has to come of a flight; where a tick is refused it ends, since the Rust goes another way from there.
 pub fn outcome(flight: &Flight) -> Outcome {
     let mut fleet = Fleet::of(&flight.records);
+    let mut ticks = Vec::new();
     let mut parts = vec![Part {
         before: Vec::new(),
-        lines: vec![Line::done()],
+        lines: vec!["done".into()],
     }];
-    let mut surprise = None;
-    for tick in &flight.ticks {
+    for calls in flight.parts() {
         let before = fleet.records.clone();
-        match fleet.tick(tick) {
-            Ok((lines, closed)) => {
-                parts.push(Part { before, lines });
-                if !closed {
-                    break;
-                }
-            }
-            Err(message) => {
-                surprise = Some(message);
-                break;
-            }
-        }
+        let lines = calls.into_iter().map(|call| fleet.answer(call)).collect();
+        parts.push(Part { before, lines });
+        ticks.push(mem::take(&mut fleet.canonical));
     }
-    let mut lines = vec![Line::Text("fleet".into())];
-    lines.extend(fleet.records.iter().map(|&record| Line::Record(record)));
+    let mut lines = vec!["fleet".into()];
+    lines.extend(fleet.records.iter().map(Record::text));
     parts.push(Part {
         before: fleet.records,
         lines,
     });
     Outcome {
         parts,
+        canonical: Flight {
+            records: flight.records.clone(),
+            ticks,
+        },
         counts: fleet.counts,
-        surprise,
     }
 }

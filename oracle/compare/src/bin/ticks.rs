@@ -2,26 +2,42 @@
 //!
 //!     ticks SEED TICKS COMMAND ..
 //!
-//! draws flights until so many ticks have been closed on both sides, has COMMAND, the program replay, make their
-//! calls, and compares every line: each plan's answer, and after every tick each agent's words, positions and
-//! velocities as numbers. The last line counts. The exit status is 0 only where nothing differs.
+//! draws flights until so many ticks have been closed, has COMMAND, the program replay, make their calls, and
+//! compares every line with what has to come: each plan's answer, and after every tick each agent's words. It has them
+//! made in the canonical order too, and compares the fleets after every tick. The last line counts. The exit status is
+//! 0 only where nothing differs.
 use std::process::ExitCode;
 use std::{env, io};
 
-use compare::flights::{draw, Flight, Goal, Step, KINDS};
+use compare::calls::Flight;
+use compare::flights::{draw, KINDS};
 use compare::published::catch_quietly;
 use compare::record::{Record, WORDS};
-use compare::replay::lines;
-use compare::simulated::{outcome, Counts, Outcome};
+use compare::replay::run;
+use compare::simulated::{outcome, Counts, Outcome, CLOSED};
 
 /// How many differences are shown.
 const SHOWN: u64 = 4;
 
-/// Where a flight first differs: the part, what is wanted there, and what was got.
+/// Where a flight first differs: the part, what is wanted there and by what, and what was got.
 struct Difference {
     part: usize,
+    by: &'static str,
     wanted: String,
     got: String,
+}
+
+/// The first line in which the two differ.
+fn unlike(part: usize, by: &'static str, wanted: &[String], got: &[String]) -> Option<Difference> {
+    let line = |lines: &[String], at: usize| lines.get(at).cloned().unwrap_or("nothing".into());
+    let mut both = (0..wanted.len().max(got.len())).map(|at| (line(wanted, at), line(got, at)));
+    let (wanted, got) = both.find(|(wanted, got)| wanted != got)?;
+    Some(Difference {
+        part,
+        by,
+        wanted,
+        got,
+    })
 }
 
 fn difference(
@@ -29,103 +45,65 @@ fn difference(
     flight: &Flight,
     outcome: &Outcome,
 ) -> io::Result<Option<Difference>> {
-    // the load before the ticks, and the fleet after them
-    let got = lines(command, flight, outcome.parts.len() - 2)?;
-    let mut at = 0;
-    for (part, wanted) in outcome.parts.iter().enumerate() {
-        for line in &wanted.lines {
-            let found = got.get(at).map_or("nothing", String::as_str);
-            if !line.is(found) {
-                return Ok(Some(Difference {
-                    part,
-                    wanted: line.text(),
-                    got: found.into(),
-                }));
-            }
-            at += 1;
-        }
-    }
-    let message = |wanted: &str, got: &str| Difference {
-        part: outcome.parts.len() - 1,
-        wanted: wanted.into(),
-        got: got.into(),
-    };
-    if let Some(surprise) = &outcome.surprise {
-        return Ok(Some(message("what document 01 foresees", surprise)));
-    }
-    Ok(got.get(at).map(|line| message("the end", line)))
+    let got = run(command, flight)?;
+    let canonical = run(command, &outcome.canonical)?;
+    // a part ends with the fleet
+    let fleet = |lines: &[String]| lines.len().saturating_sub(flight.records.len());
+    Ok((0..got.len()).find_map(|part| {
+        let (got, ordered) = (&got[part], &canonical[part]);
+        let wanted = &outcome.parts[part].lines;
+        unlike(part, "document 01 and the Rust", wanted, got).or_else(|| {
+            let (ordered, got) = (&ordered[fleet(ordered)..], &got[fleet(got)..]);
+            unlike(part, "the canonical order", ordered, got)
+        })
+    }))
 }
 
 /// The flight of one tick, on the records before it.
 fn alone(flight: &Flight, outcome: &Outcome, part: usize) -> Option<Flight> {
-    let tick = flight.ticks.get(part.checked_sub(1)?)?.clone();
+    let calls = flight.ticks.get(part.checked_sub(1)?)?.clone();
     Some(Flight {
         records: outcome.parts[part].before.clone(),
-        ticks: vec![tick],
+        ticks: vec![calls],
     })
 }
 
-/// The flight without an agent.
-fn without(flight: &Flight, agent: usize) -> Flight {
-    let mut less = flight.clone();
-    less.records.remove(agent);
-    let down = |index: &mut usize| *index -= usize::from(*index > agent);
-    for tick in &mut less.ticks {
-        tick.before.retain(|goal| goal.agent != agent);
-        tick.before
-            .iter_mut()
-            .for_each(|goal| down(&mut goal.agent));
-        tick.steps.retain_mut(|step| match step {
-            Step::Plan { agent: of, .. }
-            | Step::Goal(Goal { agent: of, .. })
-            | Step::Read(of)
-            | Step::Remove(of) => {
-                let kept = *of != agent;
-                down(of);
-                kept
-            }
-            Step::Close | Step::Open => true,
-        });
+/// Takes the smaller flight where its fleet can be loaded and it still differs.
+fn reduce(command: &[String], least: &mut Flight, less: Flight) -> io::Result<()> {
+    let loads = less.records.iter().all(Record::is_accepted);
+    if loads && difference(command, &less, &outcome(&less))?.is_some() {
+        *least = less;
     }
-    less
+    Ok(())
 }
 
-/// The smallest flight found that differs too: one tick, with agents left out and words made 0, as long as the
-/// fleet can be loaded and the two still differ, and in the same way: an agent left out may leave an idle close
-/// that is accepted.
+/// The smallest flight found that differs too: one tick, with agents and calls left out, and words made 0.
 fn smallest(
     command: &[String],
     flight: &Flight,
-    outcome_of: &Outcome,
+    outcome: &Outcome,
     part: usize,
 ) -> io::Result<Flight> {
-    let differs = |flight: &Flight| {
-        let wanted = outcome(flight);
-        Ok::<bool, io::Error>(
-            flight.records.iter().all(Record::is_accepted)
-                && wanted.surprise.is_some() == outcome_of.surprise.is_some()
-                && difference(command, flight, &wanted)?.is_some(),
-        )
-    };
     let mut least = flight.clone();
-    if let Some(one) = alone(flight, outcome_of, part) {
-        if differs(&one)? {
-            least = one;
-        }
+    if let Some(one) = alone(flight, outcome, part) {
+        reduce(command, &mut least, one)?;
     }
     for agent in (0..least.records.len()).rev() {
-        let less = without(&least, agent);
-        if differs(&less)? {
-            least = less;
+        let less = least.without_agent(agent);
+        reduce(command, &mut least, less)?;
+    }
+    for tick in 0..least.ticks.len() {
+        for call in (0..least.ticks[tick].len()).rev() {
+            let mut less = least.clone();
+            less.ticks[tick].remove(call);
+            reduce(command, &mut least, less)?;
         }
     }
     for agent in 0..least.records.len() {
         for place in 0..WORDS {
             let mut less = least.clone();
             less.records[agent].words[place] = 0;
-            if differs(&less)? {
-                least = less;
-            }
+            reduce(command, &mut least, less)?;
         }
     }
     Ok(least)
@@ -136,17 +114,20 @@ fn show(command: &[String], flight: &Flight, found: &Outcome, part: usize) -> io
     for record in &least.records {
         println!("  {}", record.text());
     }
-    for tick in &least.ticks {
-        println!("  {tick:?}");
+    for call in least.ticks.iter().flatten() {
+        println!("  {}", call.text());
     }
-    if let Some(Difference { wanted, got, .. }) = difference(command, &least, &outcome(&least))? {
-        println!("  wanted {wanted}\n  got    {got}");
+    if let Some(Difference {
+        by, wanted, got, ..
+    }) = difference(command, &least, &outcome(&least))?
+    {
+        println!("  wanted {wanted}\n  by     {by}\n  got    {got}");
     }
     Ok(())
 }
 
 /// What was counted, of one kind of flight or of all.
-#[derive(Clone, Copy, Default)]
+#[derive(Clone, Default)]
 struct Tally {
     flights: u64,
     most_agents: usize,
@@ -158,31 +139,33 @@ impl Tally {
     fn count(&mut self, flight: &Flight, counts: &Counts, differs: bool) {
         self.flights += 1;
         self.most_agents = self.most_agents.max(flight.records.len());
-        self.counts.add(counts);
+        for (what, often) in counts {
+            *self.counts.entry(what.clone()).or_default() += often;
+        }
         self.different += u64::from(differs);
     }
 
+    fn closed(&self) -> u64 {
+        let closed = |what: &str| what.starts_with(CLOSED);
+        self.counts
+            .iter()
+            .filter(|(what, _)| closed(what))
+            .map(|(_, often)| often)
+            .sum()
+    }
+
     fn line(&self) -> String {
-        let counts = &self.counts;
-        let refused: Vec<String> = (1..16)
-            .filter(|&number| counts.refused[number] > 0)
-            .map(|number| format!("{number}: {}", counts.refused[number]))
+        let counts: Vec<String> = self
+            .counts
+            .iter()
+            .map(|(what, often)| format!("{what}: {often}"))
             .collect();
         format!(
-            "{} ticks of {} flights with up to {} agents, {} plans free, {} relaxed, {} neighbours, refused {}, \
-             {} ticks that can't be closed (the Rust panics at {}, goes on at {}), {} directions by chance, \
-             {} differences",
-            counts.ticks,
+            "{} ticks closed in {} flights with up to {} agents, {}; {} differences",
+            self.closed(),
             self.flights,
             self.most_agents,
-            counts.free,
-            counts.relaxed,
-            counts.neighbours,
-            if refused.is_empty() { "none".into() } else { refused.join(", ") },
-            counts.panicked + counts.went_on,
-            counts.panicked,
-            counts.went_on,
-            counts.by_chance,
+            counts.join(", "),
             self.different
         )
     }
@@ -190,9 +173,9 @@ impl Tally {
 
 fn compare(seed: u64, ticks: u64, command: &[String]) -> io::Result<Tally> {
     let mut all = Tally::default();
-    let mut of_kind = [Tally::default(); KINDS.len()];
+    let mut of_kind = KINDS.map(|_| Tally::default());
     let mut index = 0;
-    while all.counts.ticks < ticks {
+    while all.closed() < ticks {
         let (kind, flight) = draw(seed, index);
         let found = outcome(&flight);
         let differs = difference(command, &flight, &found)?;
