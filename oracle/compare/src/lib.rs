@@ -8,6 +8,8 @@
 //!
 //! The fleet table is compared with the published Simulator in the same way: `flights` draws fleets and the `calls`
 //! on them, `simulated` works out what has to come of these, and `replay` has the program of that name make them.
+//!
+//! Some of both are written to files, which the gate runs (`stored`).
 pub mod calls;
 pub mod case;
 pub mod flights;
@@ -18,3 +20,4 @@ pub mod record;
 pub mod replay;
 pub mod server;
 pub mod simulated;
+pub mod stored;

@@ -6,11 +6,12 @@
 //! writes a file for each kind of input, rust-KIND.txt. crates/velocity_vectors/src/main.rt says what its lines are.
 use std::collections::BTreeMap;
 use std::process::ExitCode;
-use std::{env, fs, io};
+use std::{fs, io};
 
 use compare::case::*;
 use compare::inputs::{draw, Kind, KINDS};
-use compare::published::{catch_quietly, expected, Expected};
+use compare::published::{expected, Expected};
+use compare::stored::write_by;
 
 /// The cases that are looked through.
 const DRAWN: u64 = 400_000;
@@ -79,19 +80,5 @@ fn write(seed: u64, folder: &str) -> io::Result<()> {
 }
 
 fn main() -> ExitCode {
-    let words: Vec<String> = env::args().skip(1).collect();
-    let (Some(Ok(seed)), Some(folder), 2) =
-        (words.first().map(|w| w.parse()), words.get(1), words.len())
-    else {
-        eprintln!("usage: sample SEED FOLDER");
-        return ExitCode::from(2);
-    };
-    catch_quietly();
-    match write(seed, folder) {
-        Ok(()) => ExitCode::SUCCESS,
-        Err(error) => {
-            eprintln!("sample: {folder}: {error}");
-            ExitCode::FAILURE
-        }
-    }
+    write_by("sample SEED FOLDER", write)
 }
