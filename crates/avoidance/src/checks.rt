@@ -5,7 +5,7 @@ ghost use mathlib.Core.Bool.{true, false};
 ghost use Prim.Native.Nat.{_≤_};
 ghost use lib.ListN.{length};
 ghost use Rattle.vectors.specs.Number.{_<ᶠ_, zero};
-ghost use Rattle.avoidance.specs.Checks.{numbersOf, readRequest, kindAt, bad, firstBad, firstOf, badFallback, checks};
+ghost use Rattle.avoidance.specs.Checks.{numbersOf, readRequest, kindAt, outside, bad, firstBad, firstOf, badFallback, checks};
 use super::neighbour::Agent;
 use super::neighbour::agent_at;
 use super::neighbour::vector_at;
@@ -126,16 +126,23 @@ fn kind_at(place: usize) -> Kind
     }
 }
 
+// Whether a number of that kind is out of its range, which a NaN is where it has to be above 0.
+pub fn is_outside(kind: Kind, x: f32) -> bool
+    ensures { λ r. ⌜ r ≡ outside kind x ⌝ }
+{
+    match kind {
+        Kind::Any => false,
+        Kind::NotNegative => x < 0.0,
+        Kind::Positive => !(x > 0.0),
+    }
+}
+
 fn is_bad(asked: Asked, place: usize, x: f32) -> bool
     ensures { λ r. ⌜ r ≡ bad asked place x ⌝ }
 {
     match asked {
         Asked::Finite => !is_finite(x),
-        Asked::InRange => match kind_at(place) {
-            Kind::Any => false,
-            Kind::NotNegative => x < 0.0,
-            Kind::Positive => !(x > 0.0),
-        },
+        Asked::InRange => is_outside(kind_at(place), x),
     }
 }
 

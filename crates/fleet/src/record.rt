@@ -9,6 +9,7 @@ use avoidance::checks::Asked;
 use avoidance::checks::Found;
 use avoidance::checks::Kind;
 use avoidance::checks::bad_fallback;
+use avoidance::checks::is_outside;
 use avoidance::neighbour::Agent;
 use vectors::Vec3;
 use vectors::number::from_word;
@@ -114,14 +115,7 @@ fn is_bad(asked: Asked, place: usize, word: u32) -> bool
                 !is_finite(from_word(word))
             }
         }
-        Asked::InRange => {
-            let x = from_word(word);
-            match kind_at(place) {
-                Kind::Any => false,
-                Kind::NotNegative => x < 0.0,
-                Kind::Positive => !(x > 0.0),
-            }
-        }
+        Asked::InRange => is_outside(kind_at(place), from_word(word)),
     }
 }
 
