@@ -113,7 +113,37 @@ impl Flight {
             .map(move |calls| calls.iter().copied().chain(reads.clone()).collect())
     }
 
-    /// The flight without an agent, and without the calls that name it.
+    pub fn call_count(&self) -> usize {
+        self.ticks.iter().map(Vec::len).sum()
+    }
+
+    pub fn without_tick(&self, tick: usize) -> Flight {
+        let mut less = self.clone();
+        less.ticks.remove(tick);
+        less
+    }
+
+    pub fn without_call(&self, call: usize) -> Flight {
+        let mut less = self.clone();
+        let mut at = call;
+        for calls in &mut less.ticks {
+            if at < calls.len() {
+                calls.remove(at);
+                break;
+            }
+            at -= calls.len();
+        }
+        less
+    }
+
+    /// With a word of the records made 0.
+    pub fn with_zero(&self, word: usize) -> Flight {
+        let mut less = self.clone();
+        less.records[word / WORDS].words[word % WORDS] = 0;
+        less
+    }
+
+    /// Without an agent, and without the calls that name it.
     pub fn without_agent(&self, agent: usize) -> Flight {
         let mut less = self.clone();
         less.records.remove(agent);

@@ -9,8 +9,8 @@ use crate::record::*;
 pub enum Kind {
     /// Drones with room around them, of the sizes and speeds that drones have.
     Hangar,
-    /// Many in a narrow space, small ones that look ahead a little and large ones among them: the rule keeps most
-    /// of the others, and many collide.
+    /// Many in a narrow space, small ones that look ahead a little and large ones among them: the source rule keeps
+    /// most of the others, and many collide.
     Crowd,
     /// Small whole numbers: touching ones, and distances equal to the query distance, are common.
     Grid,

@@ -68,62 +68,60 @@ fn alone(flight: &Flight, outcome: &Outcome, part: usize) -> Option<Flight> {
     })
 }
 
-/// Takes the smaller flight where its fleet can be loaded and it still differs.
-fn reduce(command: &[String], least: &mut Flight, less: Flight) -> io::Result<()> {
-    let loads = less.records.iter().all(Record::is_accepted);
-    if loads && difference(command, &less, &outcome(&less))?.is_some() {
-        *least = less;
-    }
-    Ok(())
+/// A flight that differs, to be made small.
+struct Differing<'a> {
+    command: &'a [String],
+    flight: Flight,
+    difference: Difference,
 }
 
-/// The smallest flight found that differs too: one tick, with agents and calls left out, and words made 0.
-fn smallest(
-    command: &[String],
-    flight: &Flight,
-    outcome: &Outcome,
-    part: usize,
-) -> io::Result<Flight> {
-    let mut least = flight.clone();
-    if let Some(one) = alone(flight, outcome, part) {
-        reduce(command, &mut least, one)?;
-    }
-    for agent in (0..least.records.len()).rev() {
-        let less = least.without_agent(agent);
-        reduce(command, &mut least, less)?;
-    }
-    for tick in 0..least.ticks.len() {
-        for call in (0..least.ticks[tick].len()).rev() {
-            let mut less = least.clone();
-            less.ticks[tick].remove(call);
-            reduce(command, &mut least, less)?;
+impl Differing<'_> {
+    /// Takes the smaller flight where its fleet can be loaded and it still differs from the same.
+    fn reduce(&mut self, less: Flight) -> io::Result<()> {
+        if !less.records.iter().all(Record::is_accepted) {
+            return Ok(());
         }
-    }
-    for agent in 0..least.records.len() {
-        for place in 0..WORDS {
-            let mut less = least.clone();
-            less.records[agent].words[place] = 0;
-            reduce(command, &mut least, less)?;
+        if let Some(difference) = difference(self.command, &less, &outcome(&less))? {
+            if difference.by == self.difference.by {
+                self.flight = less;
+                self.difference = difference;
+            }
         }
+        Ok(())
     }
-    Ok(least)
-}
 
-fn show(command: &[String], flight: &Flight, found: &Outcome, part: usize) -> io::Result<()> {
-    let least = smallest(command, flight, found, part)?;
-    for record in &least.records {
-        println!("  {}", record.text());
+    /// Tries what `less` makes of the flight for each of so many places, from the last on.
+    fn reduce_at_each(
+        &mut self,
+        places: impl Fn(&Flight) -> usize,
+        less: impl Fn(&Flight, usize) -> Flight,
+    ) -> io::Result<()> {
+        for place in (0..places(&self.flight)).rev() {
+            self.reduce(less(&self.flight, place))?;
+        }
+        Ok(())
     }
-    for call in least.ticks.iter().flatten() {
-        println!("  {}", call.text());
+
+    fn make_small(&mut self) -> io::Result<()> {
+        self.reduce_at_each(|flight| flight.ticks.len(), Flight::without_tick)?;
+        self.reduce_at_each(|flight| flight.records.len(), Flight::without_agent)?;
+        self.reduce_at_each(Flight::call_count, Flight::without_call)?;
+        self.reduce_at_each(|flight| flight.records.len(), Flight::without_agent)?;
+        self.reduce_at_each(|flight| WORDS * flight.records.len(), Flight::with_zero)
     }
-    if let Some(Difference {
-        by, wanted, got, ..
-    }) = difference(command, &least, &outcome(&least))?
-    {
+
+    fn show(&self) {
+        for record in &self.flight.records {
+            println!("  {}", record.text());
+        }
+        for call in self.flight.ticks.iter().flatten() {
+            println!("  {}", call.text());
+        }
+        let Difference {
+            by, wanted, got, ..
+        } = &self.difference;
         println!("  wanted {wanted}\n  by     {by}\n  got    {got}");
     }
-    Ok(())
 }
 
 /// What was counted, of one kind of flight or of all.
@@ -171,6 +169,24 @@ impl Tally {
     }
 }
 
+fn show_small(
+    command: &[String],
+    flight: Flight,
+    found: &Outcome,
+    difference: Difference,
+) -> io::Result<()> {
+    let one = alone(&flight, found, difference.part);
+    let mut differing = Differing {
+        command,
+        flight,
+        difference,
+    };
+    one.map_or(Ok(()), |one| differing.reduce(one))?;
+    differing.make_small()?;
+    differing.show();
+    Ok(())
+}
+
 fn compare(seed: u64, ticks: u64, command: &[String]) -> io::Result<Tally> {
     let mut all = Tally::default();
     let mut of_kind = KINDS.map(|_| Tally::default());
@@ -181,11 +197,10 @@ fn compare(seed: u64, ticks: u64, command: &[String]) -> io::Result<Tally> {
         let differs = difference(command, &flight, &found)?;
         all.count(&flight, &found.counts, differs.is_some());
         of_kind[kind as usize].count(&flight, &found.counts, differs.is_some());
-        if let Some(Difference { part, .. }) = differs {
-            if all.different <= SHOWN {
-                println!("seed {seed}, flight {index}, {kind:?}, part {part}, made small:");
-                show(command, &flight, &found, part)?;
-            }
+        if let (Some(difference), true) = (differs, all.different <= SHOWN) {
+            let part = difference.part;
+            println!("seed {seed}, flight {index}, {kind:?}, part {part}, made small:");
+            show_small(command, flight, &found, difference)?;
         }
         index += 1;
     }
