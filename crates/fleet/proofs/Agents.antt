@@ -5,9 +5,9 @@ use Prim.Native.Nat.{ℕ, zero, suc, _-_, _≤_, _<_, min}
 use native.Mathlib.Omega.{arith}
 use lib.ListN.{length, take, drop, replicate, length-take, length-drop, length-append, take-append-drop}
 use lib.Seq.{take-append-le, drop-append-le, take-at, take-append-seam}
-use Rattle.fleet.specs.declared.record.Record.{Record}
-use Rattle.fleet.specs.declared.table.Tick.{Tick}
-use Rattle.fleet.specs.declared.table.Fleet.{Fleet}
+use Rattle.fleet.specs.declared.Record.{Record}
+use Rattle.fleet.specs.declared.Tick.{Tick}
+use Rattle.fleet.specs.declared.Fleet.{Fleet}
 use Rattle.fleet.specs.Record.{blank}
 use Rattle.fleet.specs.Table.{agents, inTick}
 

@@ -29,20 +29,20 @@ use Rattle.avoidance.specs.declared.velocity.Reply.the-variants as reply
 use Rattle.avoidance.specs.Checks.{checks, unless, firstOf, badNeighbours, badFallback, neighbourCount, scratchFor}
 use Rattle.avoidance.specs.Velocity.{velocityCall, afterChecks, plannedReply, velocityOf}
 use Rattle.avoidance.specs.Velocity as velocity
-use Rattle.fleet.specs.declared.answer.Refusal.{Refusal}
-use Rattle.fleet.specs.declared.answer.Refusal.the-variants as refusal
-use Rattle.fleet.specs.declared.answer.Answer.{Answer}
-use Rattle.fleet.specs.declared.answer.Answer.the-variants as answer
-use Rattle.fleet.specs.declared.answer.Verdict.{Verdict}
-use Rattle.fleet.specs.declared.answer.Verdict.the-variants.{Passed, Refused}
-use Rattle.fleet.specs.declared.record.Record.{Record}
-use Rattle.fleet.specs.declared.table.Rule.{Rule}
-use Rattle.fleet.specs.declared.table.Held.{Held}
-use Rattle.fleet.specs.declared.table.Held.the-variants.{Nothing, Vector}
-use Rattle.fleet.specs.declared.table.Slot.{Slot}
-use Rattle.fleet.specs.declared.table.Tick.the-variants.{Shut, Open}
-use Rattle.fleet.specs.declared.table.Fleet.{Fleet}
-use Rattle.fleet.specs.declared.table.Called.{Called}
+use Rattle.fleet.specs.declared.Refusal.{Refusal}
+use Rattle.fleet.specs.declared.Refusal.the-variants as refusal
+use Rattle.fleet.specs.declared.Answer.{Answer}
+use Rattle.fleet.specs.declared.Answer.the-variants as answer
+use Rattle.fleet.specs.declared.Verdict.{Verdict}
+use Rattle.fleet.specs.declared.Verdict.the-variants.{Passed, Refused}
+use Rattle.fleet.specs.declared.Record.{Record}
+use Rattle.fleet.specs.declared.Rule.{Rule}
+use Rattle.fleet.specs.declared.Held.{Held}
+use Rattle.fleet.specs.declared.Held.the-variants.{Nothing, Vector}
+use Rattle.fleet.specs.declared.Slot.{Slot}
+use Rattle.fleet.specs.declared.Tick.the-variants.{Shut, Open}
+use Rattle.fleet.specs.declared.Fleet.{Fleet}
+use Rattle.fleet.specs.declared.Called.{Called}
 use Rattle.fleet.specs.Answer.{mostAgents, numberOfRefusal, number, _⊳_, refusedAt}
 use Rattle.fleet.specs.Record.{blank, withVector}
 use Rattle.fleet.specs.Table.{agents, nothingHeld, inTick, fleetOf, settled, shut, agentAt, addVerdict, addCall, putVerdict, putCall, removeVerdict, removeCall, readCall}

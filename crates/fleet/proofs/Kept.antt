@@ -9,8 +9,8 @@ use lib.Dec.{eqb}
 use lib.Ieee.{Float}
 use lib.ListN.{length, getD, take, drop, set, length-set, length-append, drop-of-length-le}
 use lib.Seq.{drop-cons, take-suc-set, take-at, length-take-le, sets, sets-eq, length-sets}
-use Rattle.fleet.specs.declared.record.Record.{Record}
-use Rattle.fleet.specs.declared.table.Rule.{Rule}
+use Rattle.fleet.specs.declared.Record.{Record}
+use Rattle.fleet.specs.declared.Rule.{Rule}
 use Rattle.fleet.specs.declared.plan.Neighbours.{Neighbours}
 use Rattle.fleet.specs.Record.{blank}
 use Rattle.fleet.specs.Plan.{keeps, keptFrom, agentNumbers, numbersOf}

@@ -6,11 +6,11 @@ use native.Mathlib.Omega.{arith}
 use borrow.Author.Tests.{lt-ltb}
 use lib.ListN.{length, getD, drop}
 use lib.Seq.{drop-drop}
-use Rattle.fleet.specs.declared.answer.Answer.the-variants.{Done}
-use Rattle.fleet.specs.declared.table.Fleet.{Fleet}
-use Rattle.fleet.specs.declared.table.Called.{Called}
-use Rattle.fleet.specs.declared.table.Read.{Read}
-use Rattle.fleet.specs.declared.table.Tick.the-variants.{Shut}
+use Rattle.fleet.specs.declared.Answer.the-variants.{Done}
+use Rattle.fleet.specs.declared.Fleet.{Fleet}
+use Rattle.fleet.specs.declared.Called.{Called}
+use Rattle.fleet.specs.declared.Read.{Read}
+use Rattle.fleet.specs.declared.Tick.the-variants.{Shut}
 use Rattle.fleet.specs.Record.{blank, perRecord}
 use Rattle.fleet.specs.Table.{agents, agentAt, answerTo, readCall}
 use Rattle.fleet.specs.File.{recordBytes, wordIn, wordsIn, recordIn, recordsOf, loadVerdict, loaded, loadCall}

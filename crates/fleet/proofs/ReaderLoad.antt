@@ -6,11 +6,11 @@ use native.Mathlib.Nat.{not-suc-le-zero, le-of-suc-le-suc, zero-add}
 use native.Mathlib.Omega.{arith}
 use borrow.Author.Tests.{lt-ltb}
 use lib.ListN.{length, getD, drop}
-use Rattle.fleet.specs.declared.answer.Answer.the-variants.{Done}
-use Rattle.fleet.specs.declared.answer.Verdict.the-variants.{Passed}
-use Rattle.fleet.specs.declared.record.Record.{Record}
-use Rattle.fleet.specs.declared.table.Fleet.{Fleet}
-use Rattle.fleet.specs.declared.reader.Handed.{Handed}
+use Rattle.fleet.specs.declared.Answer.the-variants.{Done}
+use Rattle.fleet.specs.declared.Verdict.the-variants.{Passed}
+use Rattle.fleet.specs.declared.Record.{Record}
+use Rattle.fleet.specs.declared.Fleet.{Fleet}
+use Rattle.fleet.specs.declared.Handed.{Handed}
 use Rattle.fleet.specs.Answer.{_⊳_}
 use Rattle.fleet.specs.Record.{blank, perRecord, recordVerdict}
 use Rattle.fleet.specs.Table.{agents, shut, readCall}

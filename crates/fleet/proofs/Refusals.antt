@@ -28,19 +28,19 @@ use Rattle.avoidance.specs.Refusals.{some}
 use Rattle.avoidance.specs.Refusals as velocity-conditions
 use Rattle.avoidance.proofs.Refusals.{firstAt, indexOf, by-conditions}
 use Rattle.avoidance.proofs.Refusals as of-reply
-use Rattle.fleet.specs.declared.answer.Refusal.{Refusal}
-use Rattle.fleet.specs.declared.answer.Refusal.the-variants as refusal
-use Rattle.fleet.specs.declared.answer.Answer.{Answer}
-use Rattle.fleet.specs.declared.answer.Answer.the-variants as answer
-use Rattle.fleet.specs.declared.answer.Verdict.{Verdict}
-use Rattle.fleet.specs.declared.answer.Verdict.the-variants.{Passed, Refused}
-use Rattle.fleet.specs.declared.record.Record.{Record}
-use Rattle.fleet.specs.declared.table.Held.{Held}
-use Rattle.fleet.specs.declared.table.Slot.{Slot}
-use Rattle.fleet.specs.declared.table.Tick.{Tick}
-use Rattle.fleet.specs.declared.table.Tick.the-variants.{Shut, Open}
-use Rattle.fleet.specs.declared.table.Fleet.{Fleet}
-use Rattle.fleet.specs.declared.table.Called.{Called}
+use Rattle.fleet.specs.declared.Refusal.{Refusal}
+use Rattle.fleet.specs.declared.Refusal.the-variants as refusal
+use Rattle.fleet.specs.declared.Answer.{Answer}
+use Rattle.fleet.specs.declared.Answer.the-variants as answer
+use Rattle.fleet.specs.declared.Verdict.{Verdict}
+use Rattle.fleet.specs.declared.Verdict.the-variants.{Passed, Refused}
+use Rattle.fleet.specs.declared.Record.{Record}
+use Rattle.fleet.specs.declared.Held.{Held}
+use Rattle.fleet.specs.declared.Slot.{Slot}
+use Rattle.fleet.specs.declared.Tick.{Tick}
+use Rattle.fleet.specs.declared.Tick.the-variants.{Shut, Open}
+use Rattle.fleet.specs.declared.Fleet.{Fleet}
+use Rattle.fleet.specs.declared.Called.{Called}
 use Rattle.fleet.specs.Answer.{mostAgents, numberOfRefusal, number, velocityOf, _⊳_, refusedAt}
 use Rattle.fleet.specs.Record.{wordAt, fallbackOf, badMargin, bad, firstBad, recordVerdict}
 use Rattle.fleet.specs.Table.{agents, settled, shut, agentAmong, agentAt, room, addVerdict, addCall, putVerdict, putCall, removeVerdict, removeCall, answerTo, readCall}

@@ -1,9 +1,9 @@
 -- What a call hands back, by what its verdict is.
 use mathlib.Core.Path.{_≡_}
-use Rattle.fleet.specs.declared.answer.Refusal.{Refusal}
-use Rattle.fleet.specs.declared.answer.Verdict.{Verdict}
-use Rattle.fleet.specs.declared.answer.Verdict.the-variants.{Passed, Refused}
-use Rattle.fleet.specs.declared.table.Fleet.{Fleet}
+use Rattle.fleet.specs.declared.Refusal.{Refusal}
+use Rattle.fleet.specs.declared.Verdict.{Verdict}
+use Rattle.fleet.specs.declared.Verdict.the-variants.{Passed, Refused}
+use Rattle.fleet.specs.declared.Fleet.{Fleet}
 use Rattle.fleet.specs.Table.{settled}
 
 module _ (verdict : Verdict) (fleet next : Fleet) where

@@ -9,14 +9,14 @@ use lib.Dec.{leb, ltb, eqb}
 use lib.ListN.{length}
 use Rattle.avoidance.specs.declared.checks.Asked.{Asked}
 use Rattle.avoidance.specs.declared.checks.Found.the-variants.{At, Nothing}
-use Rattle.fleet.specs.declared.answer.Refusal.{Refusal}
-use Rattle.fleet.specs.declared.answer.Refusal.the-variants.{NoAgent, Full, BadFile}
-use Rattle.fleet.specs.declared.answer.Answer.the-variants as answer
-use Rattle.fleet.specs.declared.answer.Answer.the-variants.{Done}
-use Rattle.fleet.specs.declared.answer.Verdict.{Verdict}
-use Rattle.fleet.specs.declared.answer.Verdict.the-variants.{Passed, Refused}
-use Rattle.fleet.specs.declared.record.Record.{Record}
-use Rattle.fleet.specs.declared.table.Fleet.{Fleet}
+use Rattle.fleet.specs.declared.Refusal.{Refusal}
+use Rattle.fleet.specs.declared.Refusal.the-variants.{NoAgent, Full, BadFile}
+use Rattle.fleet.specs.declared.Answer.the-variants as answer
+use Rattle.fleet.specs.declared.Answer.the-variants.{Done}
+use Rattle.fleet.specs.declared.Verdict.{Verdict}
+use Rattle.fleet.specs.declared.Verdict.the-variants.{Passed, Refused}
+use Rattle.fleet.specs.declared.Record.{Record}
+use Rattle.fleet.specs.declared.Fleet.{Fleet}
 use Rattle.fleet.specs.Answer.{_⊳_}
 use Rattle.fleet.specs.Table.{settled, room, agentAmong}
 use Rattle.fleet.specs.File.{wholeFile}

@@ -6,12 +6,12 @@ use Rattle.avoidance.specs.declared.checks.Found.{Found}
 use Rattle.avoidance.specs.declared.checks.Found.the-variants.{At, Nothing}
 use Rattle.avoidance.specs.declared.velocity.Reply.{Reply}
 use Rattle.avoidance.specs.Velocity as reply
-use Rattle.fleet.specs.declared.answer.Refusal.{Refusal}
-use Rattle.fleet.specs.declared.answer.Refusal.the-variants.{NotFinite, OutOfRange, BadFallback, NoAgent, Full, TickOpen, NoTick, Unplanned, PositionNotFinite, BadFile, BadMargin}
-use Rattle.fleet.specs.declared.answer.Answer.{Answer}
-use Rattle.fleet.specs.declared.answer.Answer.the-variants.{Done, Plan, Refused}
-use Rattle.fleet.specs.declared.answer.Verdict.{Verdict}
-use Rattle.fleet.specs.declared.answer.Verdict.the-variants as verdict
+use Rattle.fleet.specs.declared.Refusal.{Refusal}
+use Rattle.fleet.specs.declared.Refusal.the-variants.{NotFinite, OutOfRange, BadFallback, NoAgent, Full, TickOpen, NoTick, Unplanned, PositionNotFinite, BadFile, BadMargin}
+use Rattle.fleet.specs.declared.Answer.{Answer}
+use Rattle.fleet.specs.declared.Answer.the-variants.{Done, Plan, Refused}
+use Rattle.fleet.specs.declared.Verdict.{Verdict}
+use Rattle.fleet.specs.declared.Verdict.the-variants as verdict
 
 -- at most so many agents
 abbrev pub mostAgents : ℕ

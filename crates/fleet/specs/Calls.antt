@@ -15,13 +15,13 @@ use Rattle.avoidance.specs.Checks.{badFallback}
 use Rattle.avoidance.specs.Velocity.{finiteVec}
 use Rattle.avoidance.specs.Refusals.{some}
 use Rattle.avoidance.specs.Refusals as velocity
-use Rattle.fleet.specs.declared.record.Record.{Record}
-use Rattle.fleet.specs.declared.table.Rule.{Rule}
-use Rattle.fleet.specs.declared.table.Slot.{Slot}
-use Rattle.fleet.specs.declared.table.Tick.{Tick}
-use Rattle.fleet.specs.declared.table.Tick.the-variants.{Shut, Open}
-use Rattle.fleet.specs.declared.table.Fleet.{Fleet}
-use Rattle.fleet.specs.declared.table.Called.{Called}
+use Rattle.fleet.specs.declared.Record.{Record}
+use Rattle.fleet.specs.declared.Rule.{Rule}
+use Rattle.fleet.specs.declared.Slot.{Slot}
+use Rattle.fleet.specs.declared.Tick.{Tick}
+use Rattle.fleet.specs.declared.Tick.the-variants.{Shut, Open}
+use Rattle.fleet.specs.declared.Fleet.{Fleet}
+use Rattle.fleet.specs.declared.Called.{Called}
 use Rattle.fleet.specs.Answer.{mostAgents}
 use Rattle.fleet.specs.Record.{wordAt, fallbackOf, bad}
 use Rattle.fleet.specs.Table.{agents, addCall, putCall, removeCall, readCall}

@@ -4,13 +4,13 @@ use mathlib.Core.Bool.{Bool, _&&_, cond}
 use mathlib.Core.List.{List, [], _∷_}
 use lib.Dec.{leb, eqb}
 use lib.ListN.{length, getD, drop}
-use Rattle.fleet.specs.declared.answer.Refusal.the-variants.{BadFile}
-use Rattle.fleet.specs.declared.answer.Verdict.{Verdict}
-use Rattle.fleet.specs.declared.answer.Verdict.the-variants.{Passed, Refused}
-use Rattle.fleet.specs.declared.record.Record.{Record}
-use Rattle.fleet.specs.declared.table.Tick.{Tick}
-use Rattle.fleet.specs.declared.table.Fleet.{Fleet}
-use Rattle.fleet.specs.declared.table.Called.{Called}
+use Rattle.fleet.specs.declared.Refusal.the-variants.{BadFile}
+use Rattle.fleet.specs.declared.Verdict.{Verdict}
+use Rattle.fleet.specs.declared.Verdict.the-variants.{Passed, Refused}
+use Rattle.fleet.specs.declared.Record.{Record}
+use Rattle.fleet.specs.declared.Tick.{Tick}
+use Rattle.fleet.specs.declared.Fleet.{Fleet}
+use Rattle.fleet.specs.declared.Called.{Called}
 use Rattle.fleet.specs.Answer.{mostAgents, _⊳_}
 use Rattle.fleet.specs.Record.{perRecord, recordVerdict}
 use Rattle.fleet.specs.Table.{fleetOf, settled, shut}

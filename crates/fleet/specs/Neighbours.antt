@@ -4,7 +4,7 @@ use mathlib.Core.Path.{_≡_}
 use mathlib.Core.List.{List}
 use lib.ListN.{length, take, set}
 use lib.Seq.{sets}
-use Rattle.fleet.specs.declared.record.Record.{Record}
+use Rattle.fleet.specs.declared.Record.{Record}
 use Rattle.fleet.specs.declared.plan.Neighbours.{Neighbours}
 use Rattle.fleet.specs.Plan.{agentNumbers, numbersOf}
 

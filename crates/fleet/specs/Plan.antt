@@ -11,18 +11,18 @@ use Rattle.avoidance.specs.declared.checks.Request.{Request}
 use Rattle.avoidance.specs.declared.velocity.Reply.{Reply}
 use Rattle.avoidance.specs.declared.velocity.Reply.the-variants.{Free, Relaxed, BadNeighbours, ShortScratch, NotFinite, OutOfRange, BadFallback, PlaneNotFinite, NoVelocity}
 use Rattle.avoidance.specs.Velocity.{velocityCall, scratchAfter}
-use Rattle.fleet.specs.declared.answer.Answer.the-variants as answer
-use Rattle.fleet.specs.declared.answer.Refusal.the-variants.{NoTick}
-use Rattle.fleet.specs.declared.answer.Verdict.{Verdict}
-use Rattle.fleet.specs.declared.answer.Verdict.the-variants.{Passed, Refused}
-use Rattle.fleet.specs.declared.record.Record.{Record}
-use Rattle.fleet.specs.declared.table.Rule.{Rule}
-use Rattle.fleet.specs.declared.table.Rule.the-variants.{Source, Near}
-use Rattle.fleet.specs.declared.table.Slot.{Slot}
-use Rattle.fleet.specs.declared.table.Tick.{Tick}
-use Rattle.fleet.specs.declared.table.Tick.the-variants.{Shut, Open}
-use Rattle.fleet.specs.declared.table.Fleet.{Fleet}
-use Rattle.fleet.specs.declared.table.Called.{Called}
+use Rattle.fleet.specs.declared.Answer.the-variants as answer
+use Rattle.fleet.specs.declared.Refusal.the-variants.{NoTick}
+use Rattle.fleet.specs.declared.Verdict.{Verdict}
+use Rattle.fleet.specs.declared.Verdict.the-variants.{Passed, Refused}
+use Rattle.fleet.specs.declared.Record.{Record}
+use Rattle.fleet.specs.declared.Rule.{Rule}
+use Rattle.fleet.specs.declared.Rule.the-variants.{Source, Near}
+use Rattle.fleet.specs.declared.Slot.{Slot}
+use Rattle.fleet.specs.declared.Tick.{Tick}
+use Rattle.fleet.specs.declared.Tick.the-variants.{Shut, Open}
+use Rattle.fleet.specs.declared.Fleet.{Fleet}
+use Rattle.fleet.specs.declared.Called.{Called}
 use Rattle.fleet.specs.Record.{blank, numberAt, agentOf, positionOf, radiusOf, goalOf, maxSpeedOf, horizonOf, fallbackOf}
 use Rattle.fleet.specs.Table.{agents, settled, agentAt}
 use Rattle.fleet.specs.Tick.{withHeld}

@@ -3,13 +3,13 @@ use Prim.Native.Nat.{ℕ, _*_, _/_}
 use mathlib.Core.List.{List}
 use lib.ListN.{length, drop}
 use denote.Ref.{RefT}
-use Rattle.fleet.specs.declared.answer.Refusal.{Refusal}
-use Rattle.fleet.specs.declared.answer.Answer.the-variants as answer
-use Rattle.fleet.specs.declared.answer.Verdict.{Verdict}
-use Rattle.fleet.specs.declared.answer.Verdict.the-variants.{Passed, Refused}
-use Rattle.fleet.specs.declared.record.Record.{Record}
-use Rattle.fleet.specs.declared.reader.RecordReader.{RecordReader}
-use Rattle.fleet.specs.declared.reader.Handed.{Handed}
+use Rattle.fleet.specs.declared.Refusal.{Refusal}
+use Rattle.fleet.specs.declared.Answer.the-variants as answer
+use Rattle.fleet.specs.declared.Verdict.{Verdict}
+use Rattle.fleet.specs.declared.Verdict.the-variants.{Passed, Refused}
+use Rattle.fleet.specs.declared.Record.{Record}
+use Rattle.fleet.specs.declared.RecordReader.{RecordReader}
+use Rattle.fleet.specs.declared.Handed.{Handed}
 use Rattle.fleet.specs.Answer.{_⊳_}
 use Rattle.fleet.specs.Record.{perRecord, blank, recordVerdict}
 use Rattle.fleet.specs.Table.{agentAmong}

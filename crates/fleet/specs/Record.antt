@@ -15,10 +15,10 @@ use Rattle.avoidance.specs.declared.checks.Kind.the-variants.{Any, NotNegative,
 use Rattle.avoidance.specs.declared.checks.Found.{Found}
 use Rattle.avoidance.specs.declared.checks.Found.the-variants.{At, Nothing}
 use Rattle.avoidance.specs.Checks.{outside, badFallback}
-use Rattle.fleet.specs.declared.answer.Refusal.the-variants as refusal
-use Rattle.fleet.specs.declared.answer.Verdict.{Verdict}
-use Rattle.fleet.specs.declared.answer.Verdict.the-variants.{Passed, Refused}
-use Rattle.fleet.specs.declared.record.Record.{Record}
+use Rattle.fleet.specs.declared.Refusal.the-variants as refusal
+use Rattle.fleet.specs.declared.Verdict.{Verdict}
+use Rattle.fleet.specs.declared.Verdict.the-variants.{Passed, Refused}
+use Rattle.fleet.specs.declared.Record.{Record}
 use Rattle.fleet.specs.Answer.{_⊳_, refusedAt}
 
 -- the words of a record

@@ -7,8 +7,8 @@ use lib.Dec.{eqb}
 use lib.ListN.{length}
 use lib.Ieee.{Float}
 use Rattle.vectors.specs.declared.Vec3.{Vec3}
-use Rattle.fleet.specs.declared.answer.Answer.{Answer}
-use Rattle.fleet.specs.declared.table.Fleet.{Fleet}
+use Rattle.fleet.specs.declared.Answer.{Answer}
+use Rattle.fleet.specs.declared.Fleet.{Fleet}
 use Rattle.fleet.specs.Answer.{number}
 use Rattle.fleet.specs.Table.{agents}
 use Rattle.fleet.specs.Calls.{Call, step}

@@ -4,19 +4,19 @@ use mathlib.Core.Bool.{cond}
 use mathlib.Core.List.{List, [], _∷_, _++_}
 use lib.Dec.{ltb}
 use lib.ListN.{length, getD, take, drop, set, replicate}
-use Rattle.fleet.specs.declared.answer.Answer.{Answer}
-use Rattle.fleet.specs.declared.answer.Answer.the-variants as answer
-use Rattle.fleet.specs.declared.answer.Refusal.the-variants.{NoAgent, Full, TickOpen, NoTick}
-use Rattle.fleet.specs.declared.answer.Verdict.{Verdict}
-use Rattle.fleet.specs.declared.answer.Verdict.the-variants.{Passed, Refused}
-use Rattle.fleet.specs.declared.record.Record.{Record}
-use Rattle.fleet.specs.declared.table.Held.the-variants.{Nothing}
-use Rattle.fleet.specs.declared.table.Slot.{Slot}
-use Rattle.fleet.specs.declared.table.Tick.{Tick}
-use Rattle.fleet.specs.declared.table.Tick.the-variants.{Shut, Open}
-use Rattle.fleet.specs.declared.table.Fleet.{Fleet}
-use Rattle.fleet.specs.declared.table.Called.{Called}
-use Rattle.fleet.specs.declared.table.Read.{Read}
+use Rattle.fleet.specs.declared.Answer.{Answer}
+use Rattle.fleet.specs.declared.Answer.the-variants as answer
+use Rattle.fleet.specs.declared.Refusal.the-variants.{NoAgent, Full, TickOpen, NoTick}
+use Rattle.fleet.specs.declared.Verdict.{Verdict}
+use Rattle.fleet.specs.declared.Verdict.the-variants.{Passed, Refused}
+use Rattle.fleet.specs.declared.Record.{Record}
+use Rattle.fleet.specs.declared.Held.the-variants.{Nothing}
+use Rattle.fleet.specs.declared.Slot.{Slot}
+use Rattle.fleet.specs.declared.Tick.{Tick}
+use Rattle.fleet.specs.declared.Tick.the-variants.{Shut, Open}
+use Rattle.fleet.specs.declared.Fleet.{Fleet}
+use Rattle.fleet.specs.declared.Called.{Called}
+use Rattle.fleet.specs.declared.Read.{Read}
 use Rattle.fleet.specs.Answer.{mostAgents, _⊳_}
 use Rattle.fleet.specs.Record.{blank, recordVerdict}
 

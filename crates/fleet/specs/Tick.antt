@@ -11,18 +11,18 @@ use Rattle.vectors.specs.Vec3.{_+ᵥ_, _*ᵥ_}
 use Rattle.avoidance.specs.declared.checks.Found.{Found}
 use Rattle.avoidance.specs.declared.checks.Found.the-variants as found
 use Rattle.avoidance.specs.Velocity.{finiteVec}
-use Rattle.fleet.specs.declared.answer.Refusal.the-variants.{NotFinite, OutOfRange, NoAgent, NoTick, Unplanned, PositionNotFinite}
-use Rattle.fleet.specs.declared.answer.Verdict.{Verdict}
-use Rattle.fleet.specs.declared.answer.Verdict.the-variants.{Passed, Refused}
-use Rattle.fleet.specs.declared.record.Record.{Record}
-use Rattle.fleet.specs.declared.table.Rule.{Rule}
-use Rattle.fleet.specs.declared.table.Held.{Held}
-use Rattle.fleet.specs.declared.table.Held.the-variants.{Nothing, Vector}
-use Rattle.fleet.specs.declared.table.Slot.{Slot}
-use Rattle.fleet.specs.declared.table.Tick.{Tick}
-use Rattle.fleet.specs.declared.table.Tick.the-variants.{Shut, Open}
-use Rattle.fleet.specs.declared.table.Fleet.{Fleet}
-use Rattle.fleet.specs.declared.table.Called.{Called}
+use Rattle.fleet.specs.declared.Refusal.the-variants.{NotFinite, OutOfRange, NoAgent, NoTick, Unplanned, PositionNotFinite}
+use Rattle.fleet.specs.declared.Verdict.{Verdict}
+use Rattle.fleet.specs.declared.Verdict.the-variants.{Passed, Refused}
+use Rattle.fleet.specs.declared.Record.{Record}
+use Rattle.fleet.specs.declared.Rule.{Rule}
+use Rattle.fleet.specs.declared.Held.{Held}
+use Rattle.fleet.specs.declared.Held.the-variants.{Nothing, Vector}
+use Rattle.fleet.specs.declared.Slot.{Slot}
+use Rattle.fleet.specs.declared.Tick.{Tick}
+use Rattle.fleet.specs.declared.Tick.the-variants.{Shut, Open}
+use Rattle.fleet.specs.declared.Fleet.{Fleet}
+use Rattle.fleet.specs.declared.Called.{Called}
 use Rattle.fleet.specs.Answer.{_⊳_, refusedAt}
 use Rattle.fleet.specs.Record.{blank, withVector, positionOf}
 use Rattle.fleet.specs.Table.{agents, inTick, fleetOf, settled, shut}

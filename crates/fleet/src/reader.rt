@@ -5,25 +5,15 @@
 // `handed_at`, by the decoder and the checks that load has.
 ghost use mathlib.Core.Path.{_≡_};
 ghost use Rattle.fleet.specs.Reader.{readerAt, storedVerdict, withheld, handedAt};
-use super::answer::Answer;
-use super::answer::Refusal;
-use super::answer::Verdict;
+use super::Answer;
+use super::Handed;
+use super::Record;
+use super::RecordReader;
+use super::Refusal;
+use super::Verdict;
 use super::file::record_at;
 use super::file::whole_file;
-use super::record::Record;
-use super::record::record_verdict;
-
-// A lent file, and the index of the record to hand out.
-pub struct RecordReader<'a> {
-    pub file: &'a [u8],
-    pub index: usize,
-}
-
-// What a reader hands out. Refused, the record is blank.
-pub struct Handed {
-    pub answer: Answer,
-    pub stored: Record,
-}
+use super::records::record_verdict;
 
 // 14, then 8, then the record's checks.
 fn stored_verdict(file: &[u8], index: usize) -> Verdict

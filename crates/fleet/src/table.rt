@@ -5,55 +5,17 @@ ghost use mathlib.Core.List.{[], _∷_, _++_};
 ghost use lib.ListN.{length, getD, take, drop, set, replicate};
 ghost use Rattle.fleet.specs.Record.{blank};
 ghost use Rattle.fleet.specs.Table.{agents, nothingHeld, inTick, fleetOf, settled, addVerdict, added, addCall, putVerdict, withRecord, putCall, removeVerdict, removed, removeCall, agentAmong, answerTo, readCall};
-use super::answer::Answer;
-use super::answer::Refusal;
-use super::answer::Verdict;
-use super::record::Record;
-use super::record::record_verdict;
-use vectors::Vec3;
-
-// Which others a plan keeps as neighbours: the Rust's rule, or the near ones.
-pub enum Rule {
-    Source,
-    Near,
-}
-
-pub enum Tick {
-    Shut,
-    Open { time_step: f32, rule: Rule },
-}
-
-// What is held for an agent until the tick ends.
-pub enum Held {
-    Nothing,
-    Vector(Vec3),
-}
-
-pub struct Slot {
-    pub held: Held,
-}
-
-// The agents' standing records, of which there are `count`; the tick; and for each agent the velocity planned
-// and the last goal set in the tick. A count over 64 is read as 64.
-pub struct Fleet {
-    pub count: usize,
-    pub records: [Record; 64],
-    pub tick: Tick,
-    pub plans: [Slot; 64],
-    pub goals: [Slot; 64],
-}
-
-// What a call hands back. Refused, it is the very fleet that was given.
-pub struct Called {
-    pub answer: Answer,
-    pub fleet: Fleet,
-}
-
-pub struct Read {
-    pub answer: Answer,
-    pub words: [u32; 19],
-    pub fleet: Fleet,
-}
+use super::Answer;
+use super::Called;
+use super::Fleet;
+use super::Held;
+use super::Read;
+use super::Record;
+use super::Refusal;
+use super::Slot;
+use super::Tick;
+use super::Verdict;
+use super::records::record_verdict;
 
 pub(crate) fn nothing_held() -> [Slot; 64]
     ensures { λ r. ⌜ r ≡ nothingHeld ⌝ }

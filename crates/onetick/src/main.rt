@@ -6,11 +6,11 @@
 //
 // The line `file NAME` stands before what comes of a file that is named. A file that can't be read is said on
 // standard error, and the next one goes on.
-use fleet::answer::Answer;
-use fleet::answer::Refusal;
-use fleet::table::Called;
-use fleet::table::Fleet;
-use fleet::table::Rule;
+use fleet::Answer;
+use fleet::Called;
+use fleet::Fleet;
+use fleet::Refusal;
+use fleet::Rule;
 use libc::STDIN_FILENO;
 use libc::STDOUT_FILENO;
 

@@ -2,10 +2,10 @@
 // the length of scratch, which is held to its limit in every call.
 ghost use Prim.Native.Nat.{_≤_};
 use super::report;
-use fleet::answer::Answer;
-use fleet::table::Called;
-use fleet::table::Fleet;
-use fleet::table::Rule;
+use fleet::Answer;
+use fleet::Called;
+use fleet::Fleet;
+use fleet::Rule;
 use vectors::Vec3;
 use vectors::number::from_word;
 

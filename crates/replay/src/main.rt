@@ -15,10 +15,10 @@ mod calls;
 mod input;
 mod report;
 
-use fleet::answer::Answer;
-use fleet::answer::Refusal;
-use fleet::table::Called;
-use fleet::table::Fleet;
+use fleet::Answer;
+use fleet::Called;
+use fleet::Fleet;
+use fleet::Refusal;
 use input::Found;
 use input::Length;
 use libc::STDIN_FILENO;

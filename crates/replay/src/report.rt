@@ -2,9 +2,9 @@
 // refusal's number and place, the plane from which a velocity is relaxed and a byte of the input are decimal.
 ghost use Prim.Native.Nat.{_+_, _≤_};
 use avoidance::velocity::Reply;
-use fleet::answer::Answer;
-use fleet::table::Fleet;
-use fleet::table::Read;
+use fleet::Answer;
+use fleet::Fleet;
+use fleet::Read;
 use libc::STDOUT_FILENO;
 use vectors::Vec3;
 use vectors::number::to_word;

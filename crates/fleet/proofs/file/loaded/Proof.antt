@@ -1,6 +1,6 @@
 use mathlib.Core.Path.{ap, _∙_}
 use borrow.Author.Needs.{needs}
-use Rattle.fleet.specs.declared.table.Tick.the-variants.{Shut}
+use Rattle.fleet.specs.declared.Tick.the-variants.{Shut}
 use Rattle.fleet.specs.Table.{inTick}
 use Rattle.fleet.specs.File.{loaded}
 use Rattle.fleet.proofs.file.loaded.Statement.{statement}

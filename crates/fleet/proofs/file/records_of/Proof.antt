@@ -5,7 +5,7 @@ use native.Mathlib.Omega.{arith}
 use denote.Ref.{now}
 use lib.ListN.{length, take, drop, length-set, length-replicate}
 use borrow.Author.Needs.{needs}
-use Rattle.fleet.specs.declared.record.Record.{Record}
+use Rattle.fleet.specs.declared.Record.{Record}
 use Rattle.fleet.specs.File.{recordIn, recordsIn, partsIn}
 use Rattle.fleet.proofs.Lists.{written-step}
 use Rattle.fleet.proofs.Stored.{parts-next}

@@ -5,7 +5,7 @@ use native.Mathlib.Omega.{arith}
 use denote.Ref.{now}
 use lib.ListN.{length, drop}
 use borrow.Author.Needs.{needs}
-use Rattle.fleet.specs.declared.answer.Verdict.{Verdict}
+use Rattle.fleet.specs.declared.Verdict.{Verdict}
 use Rattle.fleet.specs.Answer.{_⊳_}
 use Rattle.fleet.specs.Record.{recordVerdict}
 use Rattle.fleet.specs.File.{recordIn, recordsIn, partsIn, recordsVerdict}

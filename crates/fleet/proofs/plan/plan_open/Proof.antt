@@ -6,8 +6,8 @@ use lib.Dec.{ltb}
 use lib.ListN.{length}
 use denote.Ref.{now}
 use borrow.Author.Tests.{lt-ltb, le-ltb}
-use Rattle.fleet.specs.declared.answer.Verdict.the-variants.{Passed}
-use Rattle.fleet.specs.declared.record.Record.{Record}
+use Rattle.fleet.specs.declared.Verdict.the-variants.{Passed}
+use Rattle.fleet.specs.declared.Record.{Record}
 use Rattle.fleet.specs.Table.{agents, settled, agentAt}
 use Rattle.fleet.specs.Plan.{replyFor, scratchFor, answeredBy, planOpen, scratchOf, scratchOpen}
 use Rattle.fleet.proofs.Agents.{agents-are}

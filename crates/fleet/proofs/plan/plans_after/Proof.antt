@@ -5,7 +5,7 @@ use types.Run.{OneOf, miss}
 use Prim.Native.Nat.{ℕ}
 use Rattle.avoidance.specs.declared.velocity.Reply.{Reply}
 use Rattle.avoidance.specs.declared.velocity.Reply.the-variants.{Free, Relaxed, BadNeighbours, ShortScratch, NotFinite, OutOfRange, BadFallback, PlaneNotFinite, NoVelocity}
-use Rattle.fleet.specs.declared.table.Slot.{Slot}
+use Rattle.fleet.specs.declared.Slot.{Slot}
 use Rattle.fleet.specs.Plan.{plansAfter}
 use Rattle.avoidance.proofs.velocity.Reply as Reply'
 use borrow.Author.Needs.{needs}

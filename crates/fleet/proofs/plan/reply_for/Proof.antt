@@ -8,8 +8,8 @@ use lib.Seq.{getD-take, length-take-le}
 use Rattle.avoidance.specs.declared.checks.Request.{Request}
 use Rattle.avoidance.specs.declared.velocity.Reply.{Reply}
 use Rattle.avoidance.specs.Velocity.{velocityCall, scratchAfter}
-use Rattle.fleet.specs.declared.record.Record.{Record}
-use Rattle.fleet.specs.declared.table.Rule.{Rule}
+use Rattle.fleet.specs.declared.Record.{Record}
+use Rattle.fleet.specs.declared.Rule.{Rule}
 use Rattle.fleet.specs.Record.{blank}
 use Rattle.fleet.specs.Plan.{keptFrom, numbersOf, requestFor, standing, kept, neighboursOf, byIndex, replyFor, scratchFor}
 use Rattle.fleet.proofs.Lists.{getD-there}

@@ -5,7 +5,7 @@ use native.Mathlib.Omega.{arith}
 use denote.Ref.{now}
 use lib.ListN.{length}
 use borrow.Author.Needs.{needs}
-use Rattle.fleet.specs.declared.answer.Verdict.the-variants.{Passed}
+use Rattle.fleet.specs.declared.Verdict.the-variants.{Passed}
 use Rattle.fleet.specs.Reader.{storedVerdict, handedOut, handedAt}
 use Rattle.fleet.proofs.Verdicts.{first-passed, next-passed, among-passed}
 use Rattle.fleet.proofs.reader.handed_at.Statement.{statement}

@@ -38,20 +38,20 @@ use denote.Triple.Walked.{says, Stays, stay-none, stay-none-slice, walkOf, goes-
 use denote.Exit.{yes}
 use denote.Triple.Clauses.{ensured, lasts}
 use Rattle.fleet.specs.Reader.{handedAt, readerAt}
-use Rattle.fleet.specs.declared.reader.RecordReader.{RecordReader}
-use Rattle.fleet.specs.declared.reader.Handed.{Handed}
-use Rattle.fleet.proofs.reader.RecordReader as T
-use Rattle.fleet.proofs.reader.RecordReader.Laws as T′
-use Rattle.fleet.proofs.reader.Handed as S
-use Rattle.fleet.proofs.reader.Handed.Laws as S′
-use Rattle.fleet.proofs.reader.RecordReader.at as made
-use Rattle.fleet.proofs.reader.RecordReader.at.Symbol as made-def
-use Rattle.fleet.proofs.reader.RecordReader.at.Symbol.{name as #fleet·reader·RecordReader·at}
-use Rattle.fleet.proofs.reader.RecordReader.at.Met as made-thm
-use Rattle.fleet.proofs.reader.RecordReader.record as recorded
-use Rattle.fleet.proofs.reader.RecordReader.record.Symbol as recorded-def
-use Rattle.fleet.proofs.reader.RecordReader.record.Symbol.{name as #fleet·reader·RecordReader·record}
-use Rattle.fleet.proofs.reader.RecordReader.record.Met as recorded-thm
+use Rattle.fleet.specs.declared.RecordReader.{RecordReader}
+use Rattle.fleet.specs.declared.Handed.{Handed}
+use Rattle.fleet.proofs.RecordReader as T
+use Rattle.fleet.proofs.RecordReader.Laws as T′
+use Rattle.fleet.proofs.Handed as S
+use Rattle.fleet.proofs.Handed.Laws as S′
+use Rattle.fleet.proofs.RecordReader.at as made
+use Rattle.fleet.proofs.RecordReader.at.Symbol as made-def
+use Rattle.fleet.proofs.RecordReader.at.Symbol.{name as #fleet·RecordReader·at}
+use Rattle.fleet.proofs.RecordReader.at.Met as made-thm
+use Rattle.fleet.proofs.RecordReader.record as recorded
+use Rattle.fleet.proofs.RecordReader.record.Symbol as recorded-def
+use Rattle.fleet.proofs.RecordReader.record.Symbol.{name as #fleet·RecordReader·record}
+use Rattle.fleet.proofs.RecordReader.record.Met as recorded-thm
 use Rattle.fleet.proofs.reader.read_record.Key.{name as #fleet·reader·read-record}
 use Rattle.fleet.proofs.reader.read_record as reads
 use Rattle.fleet.proofs.reader.read_record.Statement as stated
@@ -122,7 +122,7 @@ module _ {M : Type 1} (𝓤 : URA M) (H : Heap 𝓤) (A : Atoms 𝓤) (W : Given
       suffices ! _ (ends-at 𝓤 H A reads.ended stayed (reads.clauses 𝓤 H A mem run) W (((κ, tt), (q, tt), tt, (s, (n, tt)), at), tt) u t (tt, (tt, tt)) (tt, (tt, tt))) $ says ! e $
       move ! (1 ∷ []) $ frame ! $ nothing ! $ owned ! usize (Is usize) (uint-makes 𝓤 H A W w64) n _ (refl, ok) $ fjoin ! $ move ! (2 ∷ 0 ∷ []) $ fjoin ! $ frame ! $ done !
 
-  module _ (C : Calls 𝓤 H) (Λ : Loops 𝓤 H) (fm : FmC 𝓤 H (W .laws) C) (known-made : Triple 𝓤 (C #fleet·reader·RecordReader·at) (Made 𝓤 H A mem run)) (known-recorded : Triple 𝓤 (C #fleet·reader·RecordReader·record) (Recorded 𝓤 H A mem run)) where
+  module _ (C : Calls 𝓤 H) (Λ : Loops 𝓤 H) (fm : FmC 𝓤 H (W .laws) C) (known-made : Triple 𝓤 (C #fleet·RecordReader·at) (Made 𝓤 H A mem run)) (known-recorded : Triple 𝓤 (C #fleet·RecordReader·record) (Recorded 𝓤 H A mem run)) where
     walk : Is (ShrSlice (named 0) κ u8) s (v ∷ []) → ent 𝓤 (onEntry 𝓤 H A reads.signature (κ, tt) (q, tt) (s, (n, tt)) at) (WpFn 𝓤 H C Λ code.function (v ∷ vint w64 n ∷ []) Post)
     walk p =
         qed W (raw (onEntry 𝓤 H A reads.signature (κ, tt) (q, tt) (s, (n, tt)) at) ∷ []) ∵ enter ! C Λ code.function (v ∷ vint w64 n ∷ []) _ $
@@ -145,13 +145,13 @@ module _ {M : Type 1} (𝓤 : URA M) (H : Heap 𝓤) (A : Atoms 𝓤) (W : Given
         by ! (exits t u′ (e′ ∙ ap (λ (x : RecordReader). handedAt (now (x .file)) (x .index)) e))))))))))))))
 
 module _ {M : Type 1} (𝓤 : URA M) (H : Heap 𝓤) (A : Atoms 𝓤) (W : Given 𝓤 H A) (mem : Memory → SProp 𝓤) (run : Routine → Fun 𝓤) where
-  read-record-walks : (C : Calls 𝓤 H) (Λ : Loops 𝓤 H) → FmC 𝓤 H (W .laws) C → Triple 𝓤 (C #fleet·reader·RecordReader·at) (Made 𝓤 H A mem run) → Triple 𝓤 (C #fleet·reader·RecordReader·record) (Recorded 𝓤 H A mem run)
+  read-record-walks : (C : Calls 𝓤 H) (Λ : Loops 𝓤 H) → FmC 𝓤 H (W .laws) C → Triple 𝓤 (C #fleet·RecordReader·at) (Made 𝓤 H A mem run) → Triple 𝓤 (C #fleet·RecordReader·record) (Recorded 𝓤 H A mem run)
       → Walks 𝓤 H A reads.ended stayed (WpFn 𝓤 H C Λ code.function) (reads.clauses 𝓤 H A mem run)
   read-record-walks C Λ fm known-made known-recorded = walked 𝓤 H A reads.ended stayed (reads.clauses 𝓤 H A mem run) (WpFn 𝓤 H C Λ code.function) (λ κs. (slice-vals, (uint-vals w64, tt))) (λ κs. (shr-slice-tells (named 0) (κs .0) u8, (uint-tells w64, tt)))
       (λ κs qs bounds a g are. via 𝓤 _ (fst∗ 𝓤 _ (emp 𝓤)) (walk 𝓤 H A W mem run (κs .0) (qs .0) (a .0) (a .1 .0) (are .1 .0 .1) C Λ fm known-made known-recorded (are .0)))
 
 read-record-meets : {M : Type 1} (𝓤 : URA M) (H : Heap 𝓤) (A : Atoms 𝓤) (W : Given 𝓤 H A) (mem : Memory → SProp 𝓤) (run : Routine → Fun 𝓤) (𝓣 : Tables 𝓤 H)
-    → Triple 𝓤 (𝓣 .C #fleet·reader·RecordReader·at) (Made 𝓤 H A mem run) → Triple 𝓤 (𝓣 .C #fleet·reader·RecordReader·record) (Recorded 𝓤 H A mem run)
+    → Triple 𝓤 (𝓣 .C #fleet·RecordReader·at) (Made 𝓤 H A mem run) → Triple 𝓤 (𝓣 .C #fleet·RecordReader·record) (Recorded 𝓤 H A mem run)
     → Meets 𝓤 H A reads.signature (WpFn 𝓤 H (𝓣 .C) (𝓣 .Λ) code.function) (reads.spec 𝓤 H A mem run)
 read-record-meets 𝓤 H A W mem run 𝓣 known-made known-recorded = walk-meets 𝓤 H A reads.ended stayed W (goes-none-slice 𝓤 H A W 1 (0 ∷ []) tt (plain (λ _. u8)) yes, (goes-none 𝓤 H A W 1 (λ _. usize) yes (λ κs x f. refl), tt)) (reads.clauses 𝓤 H A mem run) (WpFn 𝓤 H (𝓣 .C) (𝓣 .Λ) code.function) (WpFn-mono 𝓤 H (W .laws) 𝓣 code.function)
     (read-record-walks 𝓤 H A W mem run (𝓣 .C) (𝓣 .Λ) (fmOf 𝓤 H (W .laws) 𝓣) known-made known-recorded)
@@ -162,5 +162,5 @@ read-record-spec 𝓤 H 𝓜 𝓖 𝓡 =
     entered 𝓤 H (tripleOf 𝓤 H (𝓖 .A) reads.signature (reads.spec 𝓤 H (𝓖 .A) (𝓜 .mem) (𝓡 .run)))
     (tables 𝓤 H 𝓜 𝓡 code.env .C) (tables 𝓤 H 𝓜 𝓡 code.env .Λ) #fleet·reader·read-record code.function (code.unfolded 𝓤 H 𝓜 𝓡)
     (read-record-meets 𝓤 H (𝓖 .A) (givenOf 𝓤 H 𝓜 𝓖) (𝓜 .mem) (𝓡 .run) (tablesOf 𝓤 H 𝓜 (tables 𝓤 H 𝓜 𝓡 code.env))
-    (cited 𝓤 H (Made 𝓤 H (𝓖 .A) (𝓜 .mem) (𝓡 .run)) 𝓜 𝓡 code.env #fleet·reader·RecordReader·at made-def.routine code.calls-fleet·reader·RecordReader·at (made-thm.met 𝓤 H 𝓜 𝓖 𝓡))
-    (cited 𝓤 H (Recorded 𝓤 H (𝓖 .A) (𝓜 .mem) (𝓡 .run)) 𝓜 𝓡 code.env #fleet·reader·RecordReader·record recorded-def.routine code.calls-fleet·reader·RecordReader·record (recorded-thm.met 𝓤 H 𝓜 𝓖 𝓡)))
+    (cited 𝓤 H (Made 𝓤 H (𝓖 .A) (𝓜 .mem) (𝓡 .run)) 𝓜 𝓡 code.env #fleet·RecordReader·at made-def.routine code.calls-fleet·RecordReader·at (made-thm.met 𝓤 H 𝓜 𝓖 𝓡))
+    (cited 𝓤 H (Recorded 𝓤 H (𝓖 .A) (𝓜 .mem) (𝓡 .run)) 𝓜 𝓡 code.env #fleet·RecordReader·record recorded-def.routine code.calls-fleet·RecordReader·record (recorded-thm.met 𝓤 H 𝓜 𝓖 𝓡)))

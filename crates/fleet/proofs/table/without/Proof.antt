@@ -6,7 +6,7 @@ use native.Mathlib.Omega.{arith}
 use lib.ListN.{length, take, drop, length-set, drop-of-length-le}
 use lib.Seq.{drop-cons, set-split}
 use borrow.Author.Needs.{needs}
-use Rattle.fleet.specs.declared.record.Record.{Record}
+use Rattle.fleet.specs.declared.Record.{Record}
 use Rattle.fleet.specs.Record.{blank}
 use Rattle.fleet.proofs.Lists.{written-step}
 use Rattle.fleet.proofs.table.without.Statement.{statement}

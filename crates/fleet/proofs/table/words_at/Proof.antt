@@ -4,7 +4,7 @@ use native.Mathlib.Omega.{arith}
 use lib.ListN.{length, take, length-take, List·getD-eq-default}
 use lib.Seq.{getD-take}
 use borrow.Author.Needs.{needs}
-use Rattle.fleet.specs.declared.record.Record.{Record}
+use Rattle.fleet.specs.declared.Record.{Record}
 use Rattle.fleet.specs.Record.{blank}
 use Rattle.fleet.proofs.Lists.{getD-there}
 use Rattle.fleet.proofs.table.words_at.Statement.{statement}

@@ -1,0 +1,75 @@
+use mathlib.Core.Path.{_≡_, sym, ap, _∙_}
+use Prim.Native.Nat.{ℕ}
+use lib.ListN.{length, length-map}
+use borrow.Author.Needs.{needs}
+use Rattle.fleet.specs.Table.{agents, shut, room, addVerdict, addCall}
+use Rattle.fleet.proofs.Agents.{agents-length}
+use Rattle.fleet.proofs.Verdicts.{first-passed, next-passed, room-passed, settled-refused, settled-passed}
+use Rattle.fleet.proofs.Fleet.add.Statement.{statement}
+use Rattle.fleet.proofs.Fleet.add.Tie as tie
+
+in-range-requires : tie.Need-in-range-requires
+in-range-requires c κs = search needs
+
+add-verdict-requires : tie.Need-add-verdict-requires
+add-verdict-requires c κs = search needs
+
+enum-known-refusal : tie.Need-enum-known-refusal
+enum-known-refusal c = search needs
+
+refused-requires : tie.Need-refused-requires
+refused-requires c κs = search needs
+
+counted : (c : tie.After-in-range) → c .in-range .result ≡ length (agents (c .before .args .self))
+counted c = c .in-range .ensures ∙ sym (agents-length (c .before .args .self) (simp length-map at (c .before .good .0 .1 .1 .1 .0 .1 .0 .1)))
+
+-- the verdict on the fleet as it stands
+verdict-is : (c : tie.After-add-verdict)
+    → let start = c .before .before in
+    addVerdict (start .args .self .tick) (length (agents (start .args .self))) (record { words = start .args .words }) ≡ c .add-verdict .result
+verdict-is c =
+    let start = c .before .before in
+    sym (c .add-verdict .ensures ∙ ap (λ (n : ℕ). addVerdict (start .args .self .tick) n (record { words = start .args .words })) (counted (c .before)))
+
+returns : tie.Need-returns
+unfolding addCall
+returns c =
+    let called = c .before .before .before .before in
+    let start = called .before .before in
+    c .refused .ensures ∙ settled-refused (start .args .self) _ (verdict-is called ∙ c .before .before .refusal .given .1)
+
+enum-told : tie.Need-enum-told
+enum-told c = search needs
+
+added-requires : tie.Need-added-requires
+unfolding addVerdict
+added-requires c κs =
+    let called = c .before .before in
+    let start = called .before .before in
+    let count = length (agents (start .args .self)) in
+    room-passed count (first-passed (room count) _ (next-passed (shut (start .args .self .tick)) _ (verdict-is called ∙ c .enum-told .given .1)))
+
+done-requires : tie.Need-done-requires
+done-requires c κs = search needs
+
+returns-2 : tie.Need-returns-2
+unfolding addCall
+returns-2 c =
+    let told = c .before .before in
+    let called = told .before .before in
+    let start = called .before .before in
+    c .done .ensures ∙ settled-passed (start .args .self) (c .before .added .ensures) (verdict-is called ∙ told .enum-told .given .1)
+
+pub add-spec : {M : Type 1} → statement M
+add-spec =
+    tie.close
+    (tie.spec
+    in-range-requires
+    add-verdict-requires
+    enum-known-refusal
+    refused-requires
+    returns
+    enum-told
+    added-requires
+    done-requires
+    returns-2)

@@ -1,0 +1,45 @@
+use mathlib.Core.Path.{ap, _∙_}
+use Rattle.fleet.specs.declared.Fleet.{Fleet}
+use Rattle.fleet.specs.declared.Verdict.the-variants.{Passed}
+use Rattle.fleet.specs.Table.{agents, settled}
+use Rattle.fleet.specs.Tick.{opened, dropCall}
+use Rattle.fleet.proofs.Settled.{refused-is, done-is}
+use borrow.Author.Needs.{needs}
+use Rattle.fleet.proofs.Fleet.drop.Statement.{statement}
+use Rattle.fleet.proofs.Fleet.drop.Tie as tie
+
+enum-told : tie.Need-enum-told
+enum-told c = search needs
+
+enum-told-2 : tie.Need-enum-told-2
+enum-told-2 c = search needs
+
+refused-requires : tie.Need-refused-requires
+refused-requires c κs = search needs
+
+returns : tie.Need-returns
+unfolding dropCall opened
+returns c = c .refused .ensures ∙ refused-is _ _ _ _ (ap opened (c .before .enum-told2 .given .1))
+
+ended-requires : tie.Need-ended-requires
+ended-requires c κs = search needs
+
+done-requires : tie.Need-done-requires
+done-requires c κs = search needs
+
+returns-2 : tie.Need-returns-2
+unfolding dropCall opened agents
+returns-2 c =
+    c .done .ensures ∙ ap (λ (next : Fleet). settled Passed next next) (c .before .ended .ensures) ∙ done-is _ _ _ (ap opened (c .before .before .before .enum-told .given .1))
+
+pub drop-spec : {M : Type 1} → statement M
+drop-spec =
+    tie.close
+    (tie.spec
+    enum-told
+    enum-told-2
+    refused-requires
+    returns
+    ended-requires
+    done-requires
+    returns-2)

@@ -1,0 +1,108 @@
+use Rattle.fleet.specs.Answer.{placeOfRefusal}
+use borrow.Author.Needs.{needs}
+use Rattle.fleet.proofs.Refusal.place.Statement.{statement}
+use Rattle.fleet.proofs.Refusal.place.Tie as tie
+
+enum-known-self : tie.Need-enum-known-self
+enum-known-self c = search needs
+
+enum-known-self-2 : tie.Need-enum-known-self-2
+enum-known-self-2 c = search needs
+
+enum-known-self-3 : tie.Need-enum-known-self-3
+enum-known-self-3 c = search needs
+
+enum-known-self-4 : tie.Need-enum-known-self-4
+enum-known-self-4 c = search needs
+
+enum-told : tie.Need-enum-told
+enum-told c = search needs
+
+enum-told-2 : tie.Need-enum-told-2
+enum-told-2 c = search needs
+
+enum-told-3 : tie.Need-enum-told-3
+enum-told-3 c = search needs
+
+enum-known-self-5 : tie.Need-enum-known-self-5
+enum-known-self-5 c = search needs
+
+enum-known-self-6 : tie.Need-enum-known-self-6
+enum-known-self-6 c = search needs
+
+enum-known-self-7 : tie.Need-enum-known-self-7
+enum-known-self-7 c = search needs
+
+enum-known-self-8 : tie.Need-enum-known-self-8
+enum-known-self-8 c = search needs
+
+returns : tie.Need-returns
+unfolding placeOfRefusal
+returns c = simp (c .before .self .given .1)
+
+returns-2 : tie.Need-returns-2
+unfolding placeOfRefusal
+returns-2 c = simp (c .before .self2 .given .1)
+
+returns-3 : tie.Need-returns-3
+unfolding placeOfRefusal
+returns-3 c = simp (c .before .self3 .given .1)
+
+returns-4 : tie.Need-returns-4
+unfolding placeOfRefusal
+returns-4 c = simp (c .before .self4 .given .1)
+
+returns-5 : tie.Need-returns-5
+unfolding placeOfRefusal
+returns-5 c = simp (c .enum-told .given .1)
+
+returns-6 : tie.Need-returns-6
+unfolding placeOfRefusal
+returns-6 c = simp (c .enum-told2 .given .1)
+
+returns-7 : tie.Need-returns-7
+unfolding placeOfRefusal
+returns-7 c = simp (c .enum-told3 .given .1)
+
+returns-8 : tie.Need-returns-8
+unfolding placeOfRefusal
+returns-8 c = simp (c .before .self5 .given .1)
+
+returns-9 : tie.Need-returns-9
+unfolding placeOfRefusal
+returns-9 c = simp (c .before .self6 .given .1)
+
+returns-10 : tie.Need-returns-10
+unfolding placeOfRefusal
+returns-10 c = simp (c .before .self7 .given .1)
+
+returns-11 : tie.Need-returns-11
+unfolding placeOfRefusal
+returns-11 c = simp (c .before .self8 .given .1)
+
+pub place-spec : {M : Type 1} → statement M
+place-spec =
+    tie.close
+    (tie.spec
+    enum-known-self
+    enum-known-self-2
+    enum-known-self-3
+    enum-known-self-4
+    enum-told
+    enum-told-2
+    enum-told-3
+    enum-known-self-5
+    enum-known-self-6
+    enum-known-self-7
+    enum-known-self-8
+    returns
+    returns-2
+    returns-3
+    returns-4
+    returns-5
+    returns-6
+    returns-7
+    returns-8
+    returns-9
+    returns-10
+    returns-11)

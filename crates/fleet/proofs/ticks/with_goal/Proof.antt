@@ -1,0 +1,14 @@
+use Rattle.fleet.specs.Tick.{withGoal}
+use borrow.Author.Needs.{needs}
+use Rattle.fleet.proofs.ticks.with_goal.Statement.{statement}
+use Rattle.fleet.proofs.ticks.with_goal.Tie as tie
+
+with-vector-requires : tie.Need-with-vector-requires
+with-vector-requires c κs = search needs
+
+returns : tie.Need-returns
+unfolding withGoal
+returns c = c .with-vector .ensures
+
+pub with-goal-spec : {M : Type 1} → statement M
+with-goal-spec = tie.close (tie.spec with-vector-requires returns)
