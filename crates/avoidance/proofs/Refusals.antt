@@ -7,14 +7,14 @@
 --     by-conditions: the answer is the number of the first condition that holds, for the layers above
 --     scratch-unread: of scratch only the length is read
 --     same-call: two calls that meet the promise answer alike and leave the same scratch
-use mathlib.Core.Path.{_≡_, refl, sym, ap, _∙_, subst}
+use mathlib.Core.Path.{_≡_, refl, sym, ap, _∙_}
 use mathlib.Core.Bool.{Bool, true, false, not, _||_, cond}
-use mathlib.Core.List.{List, [], _∷_, _++_, map}
+use mathlib.Core.List.{List, [], _∷_, _++_}
 use mathlib.Core.Logic.{_↔_}
 use Prim.Native.Nat.{ℕ, zero, suc, _+_, _<_}
 use native.Mathlib.Omega.{arith}
 use lib.Dec.{ltb}
-use lib.ListN.{length, getD, take, drop, replicate}
+use lib.ListN.{length, getD, drop}
 use lib.Ieee.{Float}
 use Rattle.vectors.specs.Promise.{determined}
 use Rattle.vectors.specs.Vec3.{zeroVec}
@@ -24,7 +24,6 @@ use Rattle.avoidance.specs.declared.checks.Asked.{Asked}
 use Rattle.avoidance.specs.declared.checks.Asked.the-variants.{Finite, InRange}
 use Rattle.avoidance.specs.declared.checks.Found.{Found}
 use Rattle.avoidance.specs.declared.checks.Found.the-variants.{At, Nothing}
-use Rattle.avoidance.specs.declared.checks.Checked.{Checked}
 use Rattle.avoidance.specs.declared.checks.Checked.the-variants as checked
 use Rattle.solver.specs.declared.three_d.Outcome.{Outcome}
 use Rattle.solver.specs.declared.three_d.Outcome.the-variants.{Feasible, Infeasible, BadClamp}

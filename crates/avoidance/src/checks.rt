@@ -3,7 +3,6 @@
 ghost use mathlib.Core.Path.{_≡_};
 ghost use mathlib.Core.Bool.{true, false};
 ghost use Prim.Native.Nat.{_≤_};
-ghost use lib.ListN.{length};
 ghost use Rattle.vectors.specs.Number.{_<ᶠ_, zero};
 ghost use Rattle.avoidance.specs.Checks.{numbersOf, readRequest, kindAt, outside, bad, firstBad, firstOf, badFallback, checks};
 use super::neighbour::Agent;

@@ -7,11 +7,11 @@
 use mathlib.Core.Path.{_≡_, refl, sym, ap, _∙_, subst}
 use mathlib.Core.Bool.{Bool, true, false, not, _&&_, cond}
 use mathlib.Core.List.{List, [], _∷_, _++_, append-assoc, append-nil}
-use Prim.Native.Nat.{ℕ, zero, suc, _+_, _-_, _*_, _/_, _<_, _≤_}
-use native.Mathlib.Nat.{not-suc-le-zero, le-of-suc-le-suc, zero-lt-suc, mul-div-cancel-left}
+use Prim.Native.Nat.{ℕ, zero, suc, _+_, _-_, _*_, _<_, _≤_}
+use native.Mathlib.Nat.{not-suc-le-zero, le-of-suc-le-suc, zero-lt-suc}
 use native.Mathlib.Omega.{arith}
 use lib.Dec.{ltb, eqb}
-use lib.ListN.{length, length-take, getD, take, set, replicate, length-set, length-replicate, length-append, getD-replicate}
+use lib.ListN.{length, length-take, getD, take, set, replicate, length-set, length-replicate, getD-replicate}
 use lib.Seq.{length-take-le, take-append-seam, getD-set-same, getD-set-other, getD-take, set-set, set-comm}
 use lib.Ieee.{Float}
 use borrow.Author.Tests.{ltb-true, ltb-false, lt-ltb, eqb-true, eqb-false, eq-eqb, ne-eqb, le-ltb}
@@ -40,14 +40,13 @@ use Rattle.fleet.specs.declared.Rule.{Rule}
 use Rattle.fleet.specs.declared.Held.{Held}
 use Rattle.fleet.specs.declared.Held.the-variants.{Nothing, Vector}
 use Rattle.fleet.specs.declared.Slot.{Slot}
-use Rattle.fleet.specs.declared.Tick.the-variants.{Shut, Open}
+use Rattle.fleet.specs.declared.Tick.the-variants.{Open}
 use Rattle.fleet.specs.declared.Fleet.{Fleet}
-use Rattle.fleet.specs.declared.Called.{Called}
 use Rattle.fleet.specs.Answer.{mostAgents, numberOfRefusal, number, _⊳_, refusedAt}
 use Rattle.fleet.specs.Record.{blank, withVector}
 use Rattle.fleet.specs.Table.{agents, nothingHeld, inTick, fleetOf, settled, shut, agentAt, addVerdict, addCall, putVerdict, putCall, removeVerdict, removeCall, readCall}
 use Rattle.fleet.specs.File.{loadVerdict, loadCall}
-use Rattle.fleet.specs.Tick.{each, firstNot, stepVerdict, openVerdict, openCall, goalFault, goalVerdict, withGoal, withHeld, holdGoal, goalSet, goalCall, goalTaken, goalsTaken, ended, planned, firstUnplanned, arrivals, firstAstray, allMoved, moved, arrival, closeVerdict, closeOpen, closeIn, closeCall, dropCall}
+use Rattle.fleet.specs.Tick.{each, firstNot, openVerdict, openCall, goalVerdict, withGoal, withHeld, holdGoal, goalSet, goalCall, goalTaken, goalsTaken, ended, planned, firstUnplanned, arrivals, allMoved, closeVerdict, closeOpen, closeIn, closeCall, dropCall}
 use Rattle.fleet.specs.Tick as tick
 use Rattle.fleet.specs.Plan.{keeps, keptFrom, agentNumbers, numbersOf, requestFor, standing, kept, neighboursOf, byIndex, replyFor, plansAfter, fleetAfter, answeredBy, planOpen, planIn, planCall}
 use Rattle.fleet.specs.Calls.{Call, step}

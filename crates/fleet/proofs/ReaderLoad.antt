@@ -1,11 +1,11 @@
 -- Where load accepts a file, a reader hands out load's record, at every index.
-use mathlib.Core.Path.{_≡_, refl, sym, ap, _∙_}
+use mathlib.Core.Path.{_≡_, ap, _∙_}
 use mathlib.Core.List.{List, [], _∷_}
 use Prim.Native.Nat.{ℕ, zero, suc, _+_, _*_, _/_, _<_}
 use native.Mathlib.Nat.{not-suc-le-zero, le-of-suc-le-suc, zero-add}
 use native.Mathlib.Omega.{arith}
 use borrow.Author.Tests.{lt-ltb}
-use lib.ListN.{length, getD, drop}
+use lib.ListN.{length, getD}
 use Rattle.fleet.specs.declared.Answer.the-variants.{Done}
 use Rattle.fleet.specs.declared.Verdict.the-variants.{Passed}
 use Rattle.fleet.specs.declared.Record.{Record}

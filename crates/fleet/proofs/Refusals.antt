@@ -6,12 +6,12 @@ use mathlib.Core.Path.{_≡_, refl, sym, ap, _∙_}
 use mathlib.Core.Bool.{Bool, true, false, not, _&&_, _||_, cond}
 use mathlib.Core.List.{List, [], _∷_, _++_}
 use mathlib.Core.Logic.{_↔_}
-use Prim.Native.Nat.{ℕ, zero, suc, _+_, _/_, _%_, _<_, _≤_}
+use Prim.Native.Nat.{ℕ, zero, suc, _+_, _/_, _%_}
 use native.Mathlib.Omega.{arith}
 use lib.Dec.{leb, ltb, eqb}
 use lib.ListN.{length, take}
 use lib.Ieee.{Float}
-use borrow.Author.Tests.{ltb-true, ltb-false, leb-true, leb-false, eqb-true, eqb-false, lt-ltb, le-ltb, le-leb, lt-leb, eq-eqb, ne-eqb}
+use borrow.Author.Tests.{ltb-true, ltb-false, leb-true, leb-false, lt-ltb, le-ltb, le-leb, lt-leb, ne-eqb}
 use Rattle.vectors.specs.declared.Vec3.{Vec3}
 use Rattle.vectors.specs.Number.{_>ᶠ_, finite, zero as zero32}
 use Rattle.vectors.specs.Vec3.{zeroVec}
@@ -35,12 +35,10 @@ use Rattle.fleet.specs.declared.Answer.the-variants as answer
 use Rattle.fleet.specs.declared.Verdict.{Verdict}
 use Rattle.fleet.specs.declared.Verdict.the-variants.{Passed, Refused}
 use Rattle.fleet.specs.declared.Record.{Record}
-use Rattle.fleet.specs.declared.Held.{Held}
 use Rattle.fleet.specs.declared.Slot.{Slot}
 use Rattle.fleet.specs.declared.Tick.{Tick}
 use Rattle.fleet.specs.declared.Tick.the-variants.{Shut, Open}
 use Rattle.fleet.specs.declared.Fleet.{Fleet}
-use Rattle.fleet.specs.declared.Called.{Called}
 use Rattle.fleet.specs.Answer.{mostAgents, numberOfRefusal, number, velocityOf, _⊳_, refusedAt}
 use Rattle.fleet.specs.Record.{wordAt, fallbackOf, badMargin, bad, firstBad, recordVerdict}
 use Rattle.fleet.specs.Table.{agents, settled, shut, agentAmong, agentAt, room, addVerdict, addCall, putVerdict, putCall, removeVerdict, removeCall, answerTo, readCall}

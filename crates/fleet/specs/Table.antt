@@ -6,7 +6,7 @@ use lib.Dec.{ltb}
 use lib.ListN.{length, getD, take, drop, set, replicate}
 use Rattle.fleet.specs.declared.Answer.{Answer}
 use Rattle.fleet.specs.declared.Answer.the-variants as answer
-use Rattle.fleet.specs.declared.Refusal.the-variants.{NoAgent, Full, TickOpen, NoTick}
+use Rattle.fleet.specs.declared.Refusal.the-variants.{NoAgent, Full, TickOpen}
 use Rattle.fleet.specs.declared.Verdict.{Verdict}
 use Rattle.fleet.specs.declared.Verdict.the-variants.{Passed, Refused}
 use Rattle.fleet.specs.declared.Record.{Record}

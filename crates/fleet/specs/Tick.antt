@@ -2,7 +2,6 @@
 use Prim.Native.Nat.{ℕ, suc}
 use mathlib.Core.Bool.{Bool, true, false, cond}
 use mathlib.Core.List.{List, [], _∷_}
-use lib.Dec.{ltb}
 use lib.ListN.{length, getD, take, set}
 use lib.Ieee.{Float}
 use Rattle.vectors.specs.declared.Vec3.{Vec3}
@@ -11,7 +10,7 @@ use Rattle.vectors.specs.Vec3.{_+ᵥ_, _*ᵥ_}
 use Rattle.avoidance.specs.declared.checks.Found.{Found}
 use Rattle.avoidance.specs.declared.checks.Found.the-variants as found
 use Rattle.avoidance.specs.Velocity.{finiteVec}
-use Rattle.fleet.specs.declared.Refusal.the-variants.{NotFinite, OutOfRange, NoAgent, NoTick, Unplanned, PositionNotFinite}
+use Rattle.fleet.specs.declared.Refusal.the-variants.{NotFinite, OutOfRange, NoTick, Unplanned, PositionNotFinite}
 use Rattle.fleet.specs.declared.Verdict.{Verdict}
 use Rattle.fleet.specs.declared.Verdict.the-variants.{Passed, Refused}
 use Rattle.fleet.specs.declared.Record.{Record}
@@ -25,7 +24,7 @@ use Rattle.fleet.specs.declared.Fleet.{Fleet}
 use Rattle.fleet.specs.declared.Called.{Called}
 use Rattle.fleet.specs.Answer.{_⊳_, refusedAt}
 use Rattle.fleet.specs.Record.{blank, withVector, positionOf}
-use Rattle.fleet.specs.Table.{agents, inTick, fleetOf, settled, shut}
+use Rattle.fleet.specs.Table.{agents, inTick, fleetOf, settled, shut, agentAmong}
 
 -- two lists, element by element
 unfoldable pub each : {A B C : Type 0} → (A → B → C) → List A → List B → List C
@@ -61,8 +60,7 @@ goalFault goal =
 
 -- 8, where there are `count` agents, then 3
 unfoldable pub goalVerdict : ℕ → ℕ → Vec3 → Verdict
-goalVerdict count index goal =
-    cond (ltb index count) Passed (Refused (NoAgent index)) ⊳ refusedAt (goalFault goal) NotFinite
+goalVerdict count index goal = agentAmong count index ⊳ refusedAt (goalFault goal) NotFinite
 
 unfoldable pub withGoal : Vec3 → Record → Record
 withGoal goal r = withVector r 8 goal

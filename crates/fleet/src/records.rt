@@ -2,7 +2,7 @@
 // `specs/Record.antt`.
 ghost use mathlib.Core.Path.{_≡_};
 ghost use Prim.Native.Nat.{_+_, _<_, _≤_};
-ghost use Rattle.fleet.specs.Record.{blank, wordAt, numberAt, vectorAt, withVector, agentOf, fallbackOf, badMargin, kindAt, bad, firstBad, recordVerdict};
+ghost use Rattle.fleet.specs.Record.{blank, numberAt, vectorAt, withVector, agentOf, badMargin, kindAt, bad, firstBad, recordVerdict};
 use super::Record;
 use super::Refusal;
 use super::Verdict;

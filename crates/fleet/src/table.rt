@@ -2,7 +2,7 @@
 ghost use mathlib.Core.Path.{_≡_};
 ghost use Prim.Native.Nat.{suc, _-_, _≤_, _<_, min};
 ghost use mathlib.Core.List.{[], _∷_, _++_};
-ghost use lib.ListN.{length, getD, take, drop, set, replicate};
+ghost use lib.ListN.{length, getD, take, drop, replicate};
 ghost use Rattle.fleet.specs.Record.{blank};
 ghost use Rattle.fleet.specs.Table.{agents, nothingHeld, inTick, fleetOf, settled, addVerdict, added, addCall, putVerdict, withRecord, putCall, removeVerdict, removed, removeCall, agentAmong, answerTo, readCall};
 use super::Answer;

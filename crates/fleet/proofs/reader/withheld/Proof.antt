@@ -1,8 +1,4 @@
-use mathlib.Core.Path.{ap}
 use borrow.Author.Needs.{needs}
-use Rattle.fleet.specs.declared.Record.{Record}
-use Rattle.fleet.specs.declared.Handed.{Handed}
-use Rattle.fleet.specs.declared.Answer.the-variants.{Refused}
 use Rattle.fleet.specs.Reader.{withheld}
 use Rattle.fleet.proofs.reader.withheld.Statement.{statement}
 use Rattle.fleet.proofs.reader.withheld.Tie as tie
