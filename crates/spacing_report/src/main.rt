@@ -1,0 +1,137 @@
+// Reads frames of positions and prints the spacing report of each input: how many frames, where two agents came
+// nearest, and how many pairs lay below a limit.
+//
+//     spacing_report AGENTS LIMIT [FILE ..]     standard input, or each file in turn; `-` is standard input
+//
+// `--help` (`help.rt`) says what an input is and what is printed. What can't be done, as an argument that is no
+// number or a file that can't be read, is said on standard error.
+mod arguments;
+mod frames;
+mod help;
+mod lines;
+
+ghost use Prim.Native.Nat.{_≤_};
+use arguments::Number;
+use arguments::is_at_most;
+use arguments::number_at;
+use frames::Outcome;
+use frames::outcome_of;
+use libc::STDERR_FILENO;
+use libc::STDIN_FILENO;
+use spacing::Tally;
+
+fn complain(text: &[u8]) {
+    io::write_all(STDERR_FILENO, text);
+}
+
+// A `report` answers whether to go on: always, but after a write that failed, which `lines` has said.
+
+fn report_input(input: i32, name: &[u8], tally: Tally, agents: usize, limit: u32) -> bool
+    requires { ⌜ agents ≤ 64 ⌝ }
+{
+    match outcome_of(input, tally, agents) {
+        Outcome::Reported(report) => lines::say_report(report, limit),
+        Outcome::Refused(answer, frame) => lines::say_refused_frame(answer, frame),
+        Outcome::Unreadable => {
+            os::fail(name);
+            true
+        }
+    }
+}
+
+fn report_file(name: &[u8], tally: Tally, agents: usize, limit: u32) -> bool
+    requires { ⌜ agents ≤ 64 ⌝ }
+{
+    let input = os::open_read(name);
+    if input < 0 {
+        os::fail(name);
+        return true;
+    }
+    let goes_on = report_input(input, name, tally, agents, limit);
+    libc::close(input);
+    goes_on
+}
+
+fn report_argument(index: usize, tally: Tally, agents: usize, limit: u32) -> bool
+    requires { ⌜ agents ≤ 64 ⌝ }
+{
+    let mut space = io::buffer();
+    let length = os::arg(index, &mut space);
+    let name = &space[..length];
+    if !lines::say_file(name) {
+        return false;
+    }
+    if length == 0 {
+        complain(b"spacing_report: a FILE is empty, or too long for a name\n");
+        return true;
+    }
+    if arguments::is_standard_input(name) {
+        report_input(STDIN_FILENO, b"standard input", tally, agents, limit)
+    } else {
+        report_file(name, tally, agents, limit)
+    }
+}
+
+fn report_all(tally: Tally, agents: usize, limit: u32, count: usize)
+    requires { ⌜ agents ≤ 64 ⌝ }
+{
+    if count <= 3 {
+        report_input(STDIN_FILENO, b"standard input", tally, agents, limit);
+        return;
+    }
+    let mut index = 3;
+    while index < count {
+        if !report_argument(index, tally, agents, limit) {
+            return;
+        }
+        index += 1;
+    }
+}
+
+// A tally for more than 64 agents is refused, and no other.
+fn run(agents: usize, limit: u32, count: usize) {
+    let begun = Tally::begin(agents, limit);
+    let answer = begun.answer;
+    let tally = begun.tally;
+    if agents <= 64 {
+        report_all(tally, agents, limit, count);
+    } else {
+        lines::say_refused(answer);
+    }
+}
+
+// Where one of the two is not as it has to be, that is said already.
+fn run_numbers(agents: Number, limit: Number, count: usize) {
+    let Number::Is(agents) = agents else {
+        return;
+    };
+    let Number::Is(limit) = limit else {
+        return;
+    };
+    if limit <= 0xFFFF_FFFF {
+        run(agents as usize, limit as u32, count);
+    }
+}
+
+fn main() {
+    let count = os::arg_count();
+    if arguments::ask_for_help(count) {
+        help::say_help();
+        return;
+    }
+    if count < 3 {
+        complain(b"usage: spacing_report AGENTS LIMIT [FILE ..]; try --help\n");
+        return;
+    }
+    let agents = number_at(1);
+    let limit = number_at(2);
+    if let Number::Malformed = agents {
+        complain(b"spacing_report: AGENTS has to be a number in decimal digits; try --help\n");
+    }
+    if !is_at_most(limit, 0xFFFF_FFFF) {
+        complain(
+            b"spacing_report: LIMIT has to be a number in decimal digits, up to 4294967295; try --help\n",
+        );
+    }
+    run_numbers(agents, limit, count);
+}
