@@ -1,5 +1,6 @@
 -- What is proved of the definitions themselves, and laws that more than one proof cites.
 pub mod Carry
+pub mod Examples
 pub mod Filled
 pub mod Nearest
 pub mod Patterns

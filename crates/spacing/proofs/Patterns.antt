@@ -12,7 +12,7 @@ use lib.Ieee.Exact.{HasValue, odd-sign}
 use lib.Ieee.Fits.{down-pos}
 use lib.Ieee.Nearest.{closest, closest-same, closest-mono}
 use borrow.Author.Tests.{ne-eqb, ltb-false}
-use Rattle.vectors.specs.Number.{finite, ofWord}
+use Rattle.vectors.specs.Number.{ofWord}
 use Rattle.spacing.specs.Millimetres.{signed, wholeNearest, millimetres}
 use Rattle.spacing.specs.MillimetresParts.{reach, unitsIn, sizeOf}
 use Rattle.spacing.specs.Frame.{outOfReach}
@@ -43,7 +43,7 @@ neither false b e = (refl, e)
 
 -- a number within reach is finite, and at most 16384 in size
 within-value : (x : Float) → outOfReach x ≡ false → (s : Bool) × (n : ℕ) × (d : ℕ) × (0 < d) × (n ≤ 16384 * d) × HasValue x s n d
-unfolding outOfReach finite lt ofBits
+unfolding outOfReach lt ofBits
 within-value nan h = let z : _≡_ {A = ℕ} 0 1 = cc in absurd (omega arith)
 within-value (inf s) h = let z : _≡_ {A = ℕ} 0 1 = cc in absurd (omega arith)
 within-value (fin false m e) h =
@@ -81,7 +81,7 @@ few-places (suc x) t h = let small : suc x < 142 = lt-of-not-le (λ (l : 142 ≤
         (le-trans (le-of-eq (pow-add 2 23 x)) (mul-le-mul-right (2 ^ x) least)))
 
 not-finite : (s : Bool) (t : ℕ) → outOfReach (ofFields binary32 s 255 t) ≡ true
-unfolding ofFields outOfReach finite
+unfolding ofFields outOfReach
 not-finite s t = go (eqb t 0)
   where
     go : (b : Bool) → outOfReach (cond b (inf s) nan) ≡ true

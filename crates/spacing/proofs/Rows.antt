@@ -1,5 +1,5 @@
 -- One agent's pairs, one after another: the turn of the loop over them, and its end.
-use mathlib.Core.Path.{_≡_, refl, sym, ap, _∙_}
+use mathlib.Core.Path.{_≡_, sym, ap, _∙_, subst}
 use mathlib.Core.Bool.{Bool, true, false, cond}
 use mathlib.Core.List.{[]}
 use lib.Dec.{ltb}
@@ -37,9 +37,9 @@ end limit first f agents second r h = ap (λ (n : ℕ). withRow limit r first se
     none-left agents second h = omega arith
 
 -- one pair adds at most 1 to those below the limit
-pub below-more : (limit : ℕ) (r : Running) (d first second : ℕ) → withPair limit r d first second .below ≤ r .below + 1
+pub below-more : (limit : ℕ) (r r' : Running) (d first second : ℕ) → r' ≡ withPair limit r d first second → r' .below ≤ r .below + 1
 unfolding withPair
-below-more limit r d first second = go (ltb d (r .squared)) (ltb d limit)
+below-more limit r r' d first second is = subst (λ (q : Running). q .below ≤ r .below + 1) (sym is) (go (ltb d (r .squared)) (ltb d limit))
   where
     go : (nearer under : Bool) → let below = cond under (r .below + 1) (r .below) in
         cond {A = Running} nearer (record { squared = d; first = first; second = second; below = below }) (record { squared = r .squared; first = r .first; second = r .second; below = below }) .below ≤ r .below + 1

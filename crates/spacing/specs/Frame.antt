@@ -1,10 +1,10 @@
 -- A frame: three numbers to an agent. Its positions in whole millimetres, and its pairs with their squared distances.
 use Prim.Native.Nat.{ℕ, suc, _+_, _*_}
-use mathlib.Core.Bool.{Bool, not, _||_}
+use mathlib.Core.Bool.{Bool, true, _||_}
 use mathlib.Core.List.{List, [], _∷_, _++_, map}
 use lib.IntN.{ℤ}
-use lib.Ieee.{Float}
-use Rattle.vectors.specs.Number.{finite, ofWord, _<ᶠ_}
+use lib.Ieee.{Float, nan, inf, fin}
+use Rattle.vectors.specs.Number.{ofWord, _<ᶠ_}
 use Rattle.spacing.specs.declared.Sighting.{Sighting}
 use Rattle.spacing.specs.Millimetres.{apart, millimetres}
 
@@ -17,7 +17,9 @@ minusFarthest = ofWord 0xC680_0000
 
 -- not finite, or beyond 16384 either way
 unfoldable pub outOfReach : Float → Bool
-outOfReach x = not (finite x) || farthest <ᶠ x || x <ᶠ minusFarthest
+outOfReach nan = true
+outOfReach (inf s) = true
+outOfReach (fin s m e) = farthest <ᶠ fin s m e || fin s m e <ᶠ minusFarthest
 
 -- a position in whole millimetres
 pub record Position : Type 0 where

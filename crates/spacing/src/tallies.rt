@@ -17,15 +17,17 @@ use super::Tallied;
 use super::Tally;
 use super::pairs::Running;
 use super::pairs::all_pairs;
-use vectors::number::is_finite;
 
 fn is_out_of_reach(x: f32) -> bool
     ensures { λ r. ⌜ r ≡ outOfReach x ⌝ }
 {
-    if is_finite(x) {
-        if 16384.0 < x { true } else { x < -16384.0 }
-    } else {
+    if 16384.0 < x {
         true
+    } else if x < -16384.0 {
+        true
+    } else {
+        // only a NaN differs from itself
+        x != x
     }
 }
 

@@ -9,7 +9,7 @@ use lib.IntN.{ℤ, natAbs}
 use lib.Ieee.{Float, nan, inf, fin, binary32, isNan}
 use lib.Ieee.Bits.{ofBits-toBits}
 use borrow.Author.Tests.{le-leb, lt-leb}
-use Rattle.vectors.specs.Number.{ofWord, toWord, finite}
+use Rattle.vectors.specs.Number.{ofWord, toWord}
 use Rattle.spacing.specs.Millimetres.{signed, millimetres}
 use Rattle.spacing.specs.MillimetresParts.{reach, sizeOf, fromCorner}
 use Rattle.spacing.specs.Frame.{outOfReach}
@@ -19,7 +19,7 @@ use Rattle.spacing.proofs.millimetres.from_corner.Statement.{statement}
 use Rattle.spacing.proofs.millimetres.from_corner.Tie as tie
 
 no-nan : (x : Float) → outOfReach x ≡ false → T (not (isNan x))
-unfolding outOfReach finite isNan
+unfolding outOfReach isNan
 no-nan nan h = let z : _≡_ {A = ℕ} 0 1 = cc in absurd (omega arith)
 no-nan (inf s) h = tt
 no-nan (fin s m e) h = tt

@@ -126,11 +126,10 @@ loop-again c =
     let at = c .before .before .before .before .before .before .before in
     let start = at .before .before .before .before .before in
     let args = start .args in
-    let squares = now (args .squares) in
-    let d = getD squares (args .first) 0 + getD squares (at .loop .second) 0 - 2 * c .before .before .dot .result in (
+    let more = below-more (args .limit) (at .loop .running) (c .with-pair .result) _ (args .first) (at .loop .second) (c .with-pair .ensures) in (
       omega arith,
       omega arith,
-      omega (arith, ap (λ (r : Running). r .below) (c .with-pair .ensures), below-more (args .limit) (at .loop .running) d (args .first) (at .loop .second), at .loop .inv .2),
+      omega (arith, more, at .loop .inv .2),
       again (args .limit) (args .first) _ (args .agents) (at .loop .second) (at .loop .running) (c .with-pair .result) _ _ (c .before .before .before .before .before .before .loop-test .taken)
           (c .with-pair .ensures) (squared-is (c .before .before) .3) (at .loop .inv .3),
     )
