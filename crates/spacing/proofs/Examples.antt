@@ -1,20 +1,23 @@
 -- Worked examples, proved by running the definitions: `worked-examples` is one statement over the list of them.
 use Prim.Native.Nat.{ℕ}
 use mathlib.Core.Path.{_≡_, refl}
+use mathlib.Core.Bool.{Bool, true, false}
 use mathlib.Core.List.{List, [], _∷_, map}
 use lib.IntN.{ℤ, pos, negsuc}
-use lib.Ieee.{Float, mul, ofBits, toBits}
+use lib.Ieee.{Float, lt, mul, ofBits, toBits}
 use Rattle.vectors.specs.Number.{ofWord, toWord, _⊗_}
 use Rattle.spacing.specs.declared.Sighting.{Sighting}
 use Rattle.spacing.specs.declared.Smallest.the-variants.{Nowhere, Seen}
 use Rattle.spacing.specs.declared.Report.{Report}
 use Rattle.spacing.specs.Millimetres.{wholeNearest, millimetres}
-use Rattle.spacing.specs.Frame.{positions, squared, sighted, pairs}
+use Rattle.spacing.specs.Frame.{outOfReach, positions, squared, sighted, pairs}
 use Rattle.spacing.specs.Report.{sightings, lesser, smallestOf, belowOf, reportOf}
 
 -- ---- what an example says
 
 pub data Example : Type 0 where
+  -- a component by its pattern, and whether it is out of reach
+  reach : ℕ → Bool → Example
   -- a component by its pattern, and its millimetres
   component : ℕ → ℤ → Example
   -- a component by its pattern, and the pattern of its product with 1000 in f32
@@ -23,6 +26,7 @@ pub data Example : Type 0 where
   report : ℕ → List (List ℕ) → Report → Example
 
 abbrev pub Holds : Example → Type 0
+Holds (reach word this) = outOfReach (ofWord word) ≡ this
 Holds (component word this) = millimetres (ofWord word) ≡ this
 Holds (product word this) = toWord (ofWord word ⊗ ofWord 0x447A_0000) ≡ this
 Holds (report limit frames this) = reportOf limit (map (map (λ (word : ℕ). ofWord word)) frames) ≡ this
@@ -66,8 +70,15 @@ lower = o ∷ o ∷ o ∷ o ∷ o ∷ i ∷ far ∷ o ∷ o ∷ []
 
 abbrev examples : List Example
 examples =
+    -- 16384 either way is within reach, the next number is not, nor is an infinity or a NaN
+    reach far false
+    ∷ reach minusFar false
+    ∷ reach 0x4680_0001 true
+    ∷ reach 0xC680_0001 true
+    ∷ reach 0x7F80_0000 true
+    ∷ reach 0x7FC0_0000 true
     -- 62.5 goes to 62 and 187.5 to 188, and so below 0
-    component 0x3D80_0000 (pos 62)
+    ∷ component 0x3D80_0000 (pos 62)
     ∷ component 0x3E40_0000 (pos 188)
     ∷ component 0xBD80_0000 (negsuc 61)
     ∷ component 0xBE40_0000 (negsuc 187)
@@ -95,5 +106,5 @@ examples =
     ∷ []
 
 pub worked-examples : All examples
-unfolding wholeNearest millimetres positions squared sighted pairs sightings lesser smallestOf belowOf reportOf mul ofBits toBits
-worked-examples = (refl, (refl, (refl, (refl, (refl, (refl, (refl, (refl, (refl, (refl, (refl, (refl, (refl, (refl, (refl, (refl, (refl, (refl, tt))))))))))))))))))
+unfolding outOfReach wholeNearest millimetres positions squared sighted pairs sightings lesser smallestOf belowOf reportOf lt mul ofBits toBits
+worked-examples = (refl, (refl, (refl, (refl, (refl, (refl, (refl, (refl, (refl, (refl, (refl, (refl, (refl, (refl, (refl, (refl, (refl, (refl, (refl, (refl, (refl, (refl, (refl, (refl, tt))))))))))))))))))))))))
