@@ -4,7 +4,7 @@ use mathlib.Core.Path.{_≡_, refl}
 use mathlib.Core.Bool.{Bool, true, false}
 use mathlib.Core.List.{List, [], _∷_, map}
 use lib.IntN.{ℤ, pos, negsuc}
-use lib.Ieee.{Float, lt, mul, ofBits, toBits}
+use lib.Ieee.{lt, mul, ofBits, toBits}
 use Rattle.vectors.specs.Number.{ofWord, toWord, _⊗_}
 use Rattle.spacing.specs.declared.Sighting.{Sighting}
 use Rattle.spacing.specs.declared.Smallest.the-variants.{Nowhere, Seen}

@@ -1,17 +1,16 @@
 -- The millimetres of a finite number are the whole number nearest to 1000 times its value, at a tie the even one, and no other whole number is: `nearest-millimetres`.
 use mathlib.Core.Path.{_≡_, refl, sym, ap, ap₂, _∙_}
-use mathlib.Core.Bool.{Bool, true, false, not, cond}
-use Prim.Native.Nat.{ℕ, zero, suc, _+_, _-_, _*_, _/_, _%_, _≤_, _<_, compare, Ordering, Ordering·lt, Ordering·eq, Ordering·gt}
-use native.Mathlib.Nat.{add-zero, zero-mul, suc-mul, mul-assoc, mul-le-mul-right, mod-lt, div-add-mod'}
+use mathlib.Core.Bool.{Bool, true, false, not}
+use Prim.Native.Nat.{ℕ, zero, suc, _+_, _*_, _/_, _%_, _≤_, _<_, compare, Ordering, Ordering·lt, Ordering·eq, Ordering·gt}
+use native.Mathlib.Nat.{add-zero, suc-mul, mul-le-mul-right, mod-lt, div-add-mod'}
 use native.Mathlib.Numerals.{add-one}
 use native.Mathlib.Omega.{arith}
 use lib.IntN.{ℤ, pos, negsuc, negℤ, natAbs, _*ℤ_, _-ℤ_, negℤ-negℤ, negℤ-+ℤ}
-use lib.Dec.{T, ltb, isLe, isEq, ltb→lt, nltb→le}
-use lib.Ieee.{nan, inf, fin, up, down, nearest}
-use lib.Ieee.Fits.{down-pos}
-use lib.Ieee.Nearest.{closest, closest-same}
+use lib.Dec.{isLe, isEq}
+use lib.Ieee.{nearest}
+use lib.Ieee.Nearest.{closest}
 use borrow.Author.Tests.{leb-true, leb-false, eqb-true, eqb-false}
-use Rattle.spacing.specs.Millimetres.{signed, apart, wholeNearest, millimetres}
+use Rattle.spacing.specs.Millimetres.{signed, apart}
 use Rattle.spacing.specs.Claims.{NearestTo, NearestMillimetres}
 use Rattle.spacing.proofs.WholeNumbers.{natAbs-neg, neg-mul, neg-signed, apart-pos, apart-neg}
 use Rattle.spacing.proofs.Patterns.{by-value}

@@ -1,10 +1,10 @@
 -- From a bit pattern to whole millimetres: what its fields say, and that a position within reach is at most 16,384,000 from 0.
 use mathlib.Core.Path.{_≡_, refl, sym, ap, _∙_, subst}
 use mathlib.Core.Bool.{Bool, true, false, cond, not, _||_}
-use Prim.Native.Nat.{ℕ, zero, suc, _+_, _-_, _*_, _/_, _%_, _^_, _≤_, _<_}
+use Prim.Native.Nat.{ℕ, zero, suc, _+_, _*_, _/_, _%_, _^_, _≤_, _<_}
 use native.Mathlib.Nat.{mul-assoc, mul-one, mul-right-comm, mul-le-mul-right, eq-of-mul-eq-mul-right, le-of-mul-le-mul-right, lt-irrefl, lt-of-lt-of-le, le-trans, le-of-eq, lt-of-not-le, not-le-of-lt}
 use native.Mathlib.Omega.{arith}
-use lib.IntN.{ℤ, pos, natAbs}
+use lib.IntN.{natAbs}
 use lib.Dec.{T, leb, ltb, eqb, ltb→lt, nltb→le}
 use lib.Pow.{pow-pos, pow-add, pow-lt, pow-mono}
 use lib.Ieee.{Float, nan, inf, fin, binary32, up, down, odd, lt, ofFields, ofBits}

@@ -4,14 +4,14 @@ use mathlib.Core.List.{List, [], _∷_, map}
 use Prim.Native.Nat.{ℕ, zero, suc, _+_, _-_, _*_, _≤_, _<_}
 use native.Mathlib.Numerals.{add-one}
 use native.Mathlib.Omega.{arith}
-use lib.IntN.{ℤ, pos, natAbs}
+use lib.IntN.{pos, natAbs}
 use lib.ListN.{length, getD, drop, drop-of-length-le}
 use lib.Seq.{drop-cons}
 use lib.Ieee.{Float, nan}
 use Rattle.spacing.specs.declared.pairs.Running.{Running}
 use Rattle.spacing.specs.Millimetres.{apart, millimetres}
-use Rattle.spacing.specs.MillimetresParts.{reach, fromCorner}
-use Rattle.spacing.specs.Frame.{Position, positions, square, squared, outOfReach}
+use Rattle.spacing.specs.MillimetresParts.{reach}
+use Rattle.spacing.specs.Frame.{Position, positions, square, squared}
 use Rattle.spacing.specs.PairsParts.{Sound, Along, Near, between, squaredAt, listed, withRow, withPairs}
 use Rattle.spacing.proofs.Patterns.{within-size}
 use Rattle.spacing.proofs.WholeNumbers.{apart-corner, corner-near}

@@ -1,7 +1,7 @@
 -- The size of a pattern in millimetres, as the code works it out: 0 below exponent 116, and from there on a product, shifted with a carry.
-use mathlib.Core.Path.{_≡_, refl, sym, ap, _∙_, subst}
+use mathlib.Core.Path.{_≡_, sym, ap, _∙_}
 use Prim.Native.Nat.{ℕ, zero, suc, _+_, _-_, _*_, _/_, _%_, _^_, _≤_, _<_}
-use native.Mathlib.Nat.{mul-assoc, mul-comm, one-mul, le-of-lt, le-trans, lt-of-lt-of-le, le-antisymm}
+use native.Mathlib.Nat.{mul-assoc, one-mul, le-of-lt, le-trans, lt-of-lt-of-le}
 use native.Mathlib.Omega.{arith}
 use lib.Pow.{pow-add, pow-pos, pow-mono, shl-lt, shl-exact, shr-lt}
 use lib.Ieee.Nearest.{closest, closest-same, closest-mono}

@@ -1,5 +1,5 @@
 -- Squares of distances by products: |p - q|^2 + 2 p.q = |p|^2 + |q|^2, axis by axis, and none of these numbers is large.
-use mathlib.Core.Path.{_≡_, refl, sym, ap, _∙_}
+use mathlib.Core.Path.{_≡_, sym, ap, _∙_}
 use mathlib.Core.List.{List}
 use mathlib.Core.Bool.{Bool, true, false, not}
 use Prim.Native.Nat.{ℕ, _+_, _-_, _*_, _^_, _≤_, _<_}

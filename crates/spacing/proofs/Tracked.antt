@@ -1,11 +1,11 @@
 -- What the pairs one after another leave is the frame's smallest sighting, where that is smaller than the one before, and how many lay below the limit.
 use mathlib.Core.Path.{_≡_, refl, sym, ap, _∙_, subst}
-use mathlib.Core.Bool.{Bool, true, false, not, cond}
-use mathlib.Core.List.{List, [], _∷_, _++_, map}
-use Prim.Native.Nat.{ℕ, zero, suc, _+_, _-_, _*_, _^_, _≤_, _<_}
+use mathlib.Core.Bool.{Bool, true, false, cond}
+use mathlib.Core.List.{List, [], _∷_, map}
+use Prim.Native.Nat.{ℕ, suc, _+_, _*_, _^_, _≤_, _<_}
 use native.Mathlib.Nat.{add-zero, add-assoc}
 use native.Mathlib.Omega.{arith}
-use lib.Dec.{T, ltb, ltb→lt, nltb→le}
+use lib.Dec.{ltb}
 use lib.IntN.{ℤ, natAbs}
 use lib.Ieee.{Float}
 use borrow.Author.Tests.{lt-ltb, le-ltb, ltb-true, ltb-false}
@@ -14,12 +14,12 @@ use Rattle.spacing.specs.declared.Sighting.{Sighting}
 use Rattle.spacing.specs.declared.Smallest.{Smallest}
 use Rattle.spacing.specs.declared.Smallest.the-variants.{Nowhere, Seen}
 use Rattle.spacing.specs.declared.pairs.Running.{Running}
-use Rattle.spacing.specs.Millimetres.{apart, millimetres}
-use Rattle.spacing.specs.MillimetresParts.{reach, fromCorner}
+use Rattle.spacing.specs.Millimetres.{apart}
+use Rattle.spacing.specs.MillimetresParts.{reach}
 use Rattle.spacing.specs.Frame.{Position, positions, square, squared, sighted, pairs, outOfReach}
 use Rattle.spacing.specs.Report.{lesser, smallestOf, belowOf}
 use Rattle.spacing.specs.Tally.{withinReach}
-use Rattle.spacing.specs.PairsParts.{between, withPair, withRow, withPairs, startAt}
+use Rattle.spacing.specs.PairsParts.{withPair, withRow, withPairs, startAt}
 use Rattle.spacing.specs.TallyParts.{boundOf, smallestAfter}
 use Rattle.spacing.proofs.Patterns.{within-size}
 use Rattle.spacing.proofs.SmallestOf.{lesser-nowhere, lesser-assoc, smallest-append, below-append}

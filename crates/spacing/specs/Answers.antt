@@ -1,6 +1,5 @@
 -- What a tally answers: document 02's numbers and places.
 use Prim.Native.Nat.{ℕ}
-use Rattle.spacing.specs.declared.Refusal.{Refusal}
 use Rattle.spacing.specs.declared.Refusal.the-variants.{TooManyAgents, WrongLength, TooManyFrames, OutOfReach}
 use Rattle.spacing.specs.declared.Answer.{Answer}
 use Rattle.spacing.specs.declared.Answer.the-variants.{Done, Refused}

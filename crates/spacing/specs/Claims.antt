@@ -1,5 +1,5 @@
 -- What is proved of the definitions, each statement under its name. The proofs are in `proofs/`.
-use Prim.Native.Nat.{ℕ, suc, _+_, _*_, _^_, _%_, _≤_, _<_}
+use Prim.Native.Nat.{ℕ, _*_, _%_, _≤_, _<_}
 use mathlib.Core.Path.{_≡_}
 use mathlib.Core.Bool.{Bool, true, false, not, _&&_, cond}
 use mathlib.Core.List.{List, [], _∷_, _++_}
@@ -56,11 +56,12 @@ TallyReport =
     (agents limit : ℕ) (frames : List (List Float))
     → after (begun agents limit .tally) frames .report ≡ reportOf limit (accepted (begun agents limit .tally) frames)
 
--- whether a frame has the right length, and every component of it is within reach
+-- whether every component is within reach
 unfoldable pub allWithin : List Float → Bool
 allWithin [] = true
 allWithin (x ∷ xs) = not (outOfReach x) && allWithin xs
 
+-- the frames of the right length, with every component within reach
 unfoldable pub soundOnes : ℕ → List (List Float) → List (List Float)
 soundOnes agents [] = []
 soundOnes agents (f ∷ fs) =

@@ -1,17 +1,17 @@
 -- The pattern's sign says on which side of 0 the component lies, and the rest how far.
-use mathlib.Core.Path.{_≡_, refl, sym, ap, _∙_, subst}
+use mathlib.Core.Path.{_≡_, sym, ap, _∙_}
 use mathlib.Core.Bool.{Bool, true, false, not, cond}
-use Prim.Native.Nat.{ℕ, _+_, _-_, _/_, _%_, _^_, _≤_}
+use Prim.Native.Nat.{ℕ, _+_, _-_, _^_, _≤_}
 use native.Mathlib.Omega.{arith}
 use denote.Floats.{passes}
 use lib.Dec.{T, leb}
-use lib.IntN.{ℤ, natAbs}
+use lib.IntN.{natAbs}
 use lib.Ieee.{Float, nan, inf, fin, binary32, isNan}
 use lib.Ieee.Bits.{ofBits-toBits}
 use borrow.Author.Tests.{le-leb, lt-leb}
 use Rattle.vectors.specs.Number.{ofWord, toWord}
 use Rattle.spacing.specs.Millimetres.{signed, millimetres}
-use Rattle.spacing.specs.MillimetresParts.{reach, sizeOf, fromCorner}
+use Rattle.spacing.specs.MillimetresParts.{reach, fromCorner}
 use Rattle.spacing.specs.Frame.{outOfReach}
 use Rattle.spacing.proofs.WholeNumbers.{natAbs-signed, signed-corner}
 use Rattle.spacing.proofs.Patterns.{word-within, word-size, within-size}

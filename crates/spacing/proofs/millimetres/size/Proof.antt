@@ -1,5 +1,5 @@
 -- The product fits 64 binary digits all along; what it is shifted to is the nearest by the law of the carry.
-use Prim.Native.Nat.{ℕ, _+_, _-_, _*_, _/_, _%_, _^_, _≤_, _<_}
+use Prim.Native.Nat.{_-_, _/_, _^_}
 use native.Mathlib.Omega.{arith}
 use Rattle.spacing.proofs.Sizes.{small, half-most, rounded, fits-32}
 use borrow.Author.Needs.{needs}

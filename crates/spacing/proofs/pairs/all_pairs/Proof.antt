@@ -1,12 +1,11 @@
 -- The loop's invariant: the rows that are left give the answer that is due from the first on, and few pairs were below the limit. The measure is how many rows are left.
 use mathlib.Core.Path.{_≡_, refl, sym, _∙_}
-use Prim.Native.Nat.{ℕ, _+_, _-_, _*_, _≤_, _<_}
+use Prim.Native.Nat.{_-_, _*_, _≤_}
 use native.Mathlib.Omega.{arith}
-use borrow.Author.Needs.{needs}
 use denote.Ref.{now}
-use lib.ListN.{length, drop}
+use lib.ListN.{drop}
 use Rattle.spacing.specs.Frame.{positions}
-use Rattle.spacing.specs.PairsParts.{Near, Squares, withPairs, startAt}
+use Rattle.spacing.specs.PairsParts.{Near, withPairs, startAt}
 use Rattle.spacing.proofs.Positions.{near, again, end}
 use Rattle.spacing.proofs.pairs.all_pairs.Statement.{statement}
 use Rattle.spacing.proofs.pairs.all_pairs.Tie as tie

@@ -1,10 +1,10 @@
 -- The loop's invariant: the agents passed have the squares of their distances from the corner in the array. The measure is how many are left.
 use mathlib.Core.Path.{_≡_, refl, _∙_}
-use Prim.Native.Nat.{ℕ, _+_, _-_, _*_, _≤_, _<_}
+use Prim.Native.Nat.{ℕ, _-_, _≤_, _<_}
 use native.Mathlib.Omega.{arith}
 use borrow.Author.Needs.{needs}
 use denote.Ref.{now}
-use lib.ListN.{length, getD, length-set}
+use lib.ListN.{length, length-set}
 use Rattle.spacing.specs.PairsParts.{Squares, dotAt}
 use Rattle.spacing.proofs.Filled.{one-more}
 use Rattle.spacing.proofs.pairs.from_corner_squared.Statement.{statement}

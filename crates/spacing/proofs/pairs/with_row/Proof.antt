@@ -1,13 +1,12 @@
 -- The loop's invariant: the pairs that are left give the answer that is due from the first on, and few were below the limit. The measure is how many are left.
-use mathlib.Core.Path.{_≡_, refl, sym, ap, _∙_}
-use Prim.Native.Nat.{ℕ, suc, _+_, _-_, _*_, _^_, _≤_, _<_}
+use mathlib.Core.Path.{_≡_, sym, _∙_}
+use Prim.Native.Nat.{suc, _+_, _-_, _*_, _^_, _≤_, _<_}
 use native.Mathlib.Numerals.{add-one}
 use native.Mathlib.Omega.{arith}
 use borrow.Author.Needs.{needs}
 use denote.Ref.{now}
-use lib.ListN.{length, getD}
-use Rattle.spacing.specs.declared.pairs.Running.{Running}
-use Rattle.spacing.specs.PairsParts.{squaredAt, dotAt, listed, withPair, withRow}
+use lib.ListN.{getD}
+use Rattle.spacing.specs.PairsParts.{squaredAt, listed, withRow}
 use Rattle.spacing.proofs.Squares.{by-dots}
 use Rattle.spacing.proofs.Rows.{again, end, below-more}
 use Rattle.spacing.proofs.pairs.with_row.Statement.{statement}

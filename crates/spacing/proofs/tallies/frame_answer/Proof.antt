@@ -1,5 +1,4 @@
 -- The three tests in their order.
-use mathlib.Core.Path.{_≡_, sym}
 use borrow.Author.Tests.{eq-eqb, ne-eqb, le-leb, lt-leb}
 use Rattle.spacing.specs.Tally.{frameAnswer}
 use borrow.Author.Needs.{needs}
