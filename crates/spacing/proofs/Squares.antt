@@ -1,16 +1,16 @@
 -- Squares of distances by products: |p - q|^2 + 2 p.q = |p|^2 + |q|^2, axis by axis, and none of these numbers is large.
-use mathlib.Core.Path.{_≡_, sym, ap, _∙_}
+use mathlib.Core.Path.{_≡_, sym, ap, ap₂, _∙_, subst}
 use mathlib.Core.List.{List}
 use mathlib.Core.Bool.{Bool, true, false, not}
 use Prim.Native.Nat.{ℕ, _+_, _-_, _*_, _^_, _≤_, _<_}
 use native.Mathlib.Nat.{mul-add, add-mul, mul-comm}
 use native.Mathlib.Omega.{arith}
 use lib.Dec.{T, leb, leb→le, nleb→lt}
-use lib.ListN.{getD}
 use Rattle.vectors.proofs.root.Whole.{mul-lt-pow}
+use Rattle.spacing.specs.declared.pairs.Spot.{Spot}
 use Rattle.spacing.specs.MillimetresParts.{reach}
 use Rattle.spacing.specs.Frame.{square}
-use Rattle.spacing.specs.PairsParts.{between, dotAt, squaredAt, Near, Squares}
+use Rattle.spacing.specs.PairsParts.{between, spotAt, Placed, AllPlaced, squaredBetween, squaredAt}
 
 -- a product of two distances from the corner
 pub product-small : (a b : ℕ) → a ≤ 2 * reach → b ≤ 2 * reach → a * b < 2 ^ 50
@@ -39,32 +39,28 @@ square-between a b = go (leb a b) (leb→le a b) (nleb→lt a b)
     go true least most = up a b (least tt)
     go false least most = down a b (most tt)
 
-squared-dots : (xs ys zs : List ℕ) (i j : ℕ) → squaredAt xs ys zs i j + 2 * dotAt xs ys zs i j ≡ dotAt xs ys zs i i + dotAt xs ys zs j j
-squared-dots xs ys zs i j =
-    omega (
-      arith,
-      square-between (getD xs i 0) (getD xs j 0),
-      square-between (getD ys i 0) (getD ys j 0),
-      square-between (getD zs i 0) (getD zs j 0),
-    )
-
-dot-small : (agents : ℕ) (xs ys zs : List ℕ) (i j : ℕ) → Near agents xs → Near agents ys → Near agents zs → i < agents → j < agents → dotAt xs ys zs i j < 2 ^ 52
-dot-small agents xs ys zs i j hx hy hz hi hj =
-    omega (
-      arith,
-      product-small (getD xs i 0) (getD xs j 0) (hx i hi) (hx j hj),
-      product-small (getD ys i 0) (getD ys j 0) (hy i hi) (hy j hj),
-      product-small (getD zs i 0) (getD zs j 0) (hz i hi) (hz j hj),
-    )
-
 -- what the code makes of two agents' squares and of d, their dot product
-pub by-dots : (agents : ℕ) (xs ys zs squares : List ℕ) (i j d : ℕ) → Near agents xs × Near agents ys × Near agents zs → Squares agents xs ys zs squares → i < agents → j < agents → d ≡ dotAt xs ys zs i j
-    → (d < 2 ^ 52) × (getD squares i 0 + getD squares j 0 < 2 ^ 53) × (2 * d ≤ getD squares i 0 + getD squares j 0) × (getD squares i 0 + getD squares j 0 - 2 * d ≡ squaredAt xs ys zs i j)
-by-dots agents xs ys zs squares i j d near are hi hj is =
-    let ij = dot-small agents xs ys zs i j (near .0) (near .1) (near .2) hi hj in
-    let ii = dot-small agents xs ys zs i i (near .0) (near .1) (near .2) hi hi in
-    let jj = dot-small agents xs ys zs j j (near .0) (near .1) (near .2) hj hj in
-    let at-i = are i hi in
-    let at-j = are j hj in
-    let both = squared-dots xs ys zs i j in
-    (omega arith, omega arith, omega arith, omega arith)
+pub by-dots : (p q : Spot) (d : ℕ) → Placed p → Placed q → d ≡ p .x * q .x + p .y * q .y + p .z * q .z
+    → (d < 2 ^ 52) × (p .square + q .square < 2 ^ 53) × (2 * d ≤ p .square + q .square) × (p .square + q .square - 2 * d ≡ squaredBetween p q)
+by-dots p q d hp hq is =
+    let x = product-small (p .x) (q .x) (hp .0) (hq .0) in
+    let y = product-small (p .y) (q .y) (hp .1) (hq .1) in
+    let z = product-small (p .z) (q .z) (hp .2) (hq .2) in
+    let xp = product-small (p .x) (p .x) (hp .0) (hp .0) in
+    let yp = product-small (p .y) (p .y) (hp .1) (hp .1) in
+    let zp = product-small (p .z) (p .z) (hp .2) (hp .2) in
+    let xq = product-small (q .x) (q .x) (hq .0) (hq .0) in
+    let yq = product-small (q .y) (q .y) (hq .1) (hq .1) in
+    let zq = product-small (q .z) (q .z) (hq .2) (hq .2) in
+    let gaps : squaredBetween p q + 2 * d ≡ p .square + q .square =
+    omega (arith, is, hp .3, hq .3, square-between (p .x) (q .x), square-between (p .y) (q .y), square-between (p .z) (q .z)) in
+    (omega arith, omega (arith, hp .3, hq .3), omega arith, omega arith)
+
+-- ---- agents by the arrays
+
+module _ (xs ys zs squares : List ℕ) where
+  pub placed-at : (agents : ℕ) → AllPlaced agents xs ys zs squares → (k : ℕ) → k < agents → (p : Spot) → p ≡ spotAt xs ys zs squares k → Placed p
+  placed-at agents all k h p is = subst Placed (sym is) (all k h)
+
+  pub squared-at : (i j : ℕ) (p q : Spot) → p ≡ spotAt xs ys zs squares i → q ≡ spotAt xs ys zs squares j → (d : ℕ) → d ≡ squaredBetween p q → d ≡ squaredAt xs ys zs i j
+  squared-at i j p q at-i at-j d is = is ∙ ap₂ squaredBetween at-i at-j

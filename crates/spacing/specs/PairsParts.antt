@@ -3,11 +3,13 @@ use Prim.Native.Nat.{ℕ, zero, suc, _+_, _-_, _*_, _≤_, _<_}
 use mathlib.Core.Path.{_≡_}
 use mathlib.Core.Bool.{cond}
 use mathlib.Core.List.{List, [], _∷_, map}
-use lib.Dec.{ltb}
+use lib.Dec.{ltb, eqb}
 use lib.ListN.{length, getD}
 use lib.Ieee.{Float, nan}
 use Rattle.spacing.specs.declared.Answer.the-variants.{Done}
+use Rattle.spacing.specs.declared.pairs.Glance.{Glance}
 use Rattle.spacing.specs.declared.pairs.Running.{Running}
+use Rattle.spacing.specs.declared.pairs.Spot.{Spot}
 use Rattle.spacing.specs.Millimetres.{millimetres}
 use Rattle.spacing.specs.MillimetresParts.{reach, fromCorner}
 use Rattle.spacing.specs.Frame.{Position, square, squared}
@@ -35,6 +37,19 @@ between a b = a - b + (b - a)
 abbrev pub dotAt : List ℕ → List ℕ → List ℕ → ℕ → ℕ → ℕ
 dotAt xs ys zs i j = getD xs i 0 * getD xs j 0 + getD ys i 0 * getD ys j 0 + getD zs i 0 * getD zs j 0
 
+-- an agent by the arrays, with its squared distance from the corner
+abbrev pub spotAt : List ℕ → List ℕ → List ℕ → List ℕ → ℕ → Spot
+spotAt xs ys zs squares k =
+    record { x = getD xs k 0; y = getD ys k 0; z = getD zs k 0; square = getD squares k 0 }
+
+abbrev pub Placed : Spot → Type 0
+Placed p =
+    (p .x ≤ 2 * reach) × (p .y ≤ 2 * reach) × (p .z ≤ 2 * reach) × (p .square ≡ p .x * p .x + p .y * p .y + p .z * p .z)
+
+abbrev pub squaredBetween : Spot → Spot → ℕ
+squaredBetween p q =
+    square (between (p .x) (q .x)) + square (between (p .y) (q .y)) + square (between (p .z) (q .z))
+
 abbrev pub squaredAt : List ℕ → List ℕ → List ℕ → ℕ → ℕ → ℕ
 squaredAt xs ys zs i j =
     square (between (getD xs i 0) (getD xs j 0))
@@ -45,10 +60,27 @@ squaredAt xs ys zs i j =
 abbrev pub Squares : ℕ → List ℕ → List ℕ → List ℕ → List ℕ → Type 0
 Squares agents xs ys zs squares = (k : ℕ) → k < agents → getD squares k 0 ≡ dotAt xs ys zs k k
 
+abbrev pub AllPlaced : ℕ → List ℕ → List ℕ → List ℕ → List ℕ → Type 0
+AllPlaced agents xs ys zs squares = (k : ℕ) → k < agents → Placed (spotAt xs ys zs squares k)
+
 -- f j, f (j + 1) and on, so many of them
 unfoldable pub listed : ℕ → ℕ → (ℕ → ℕ) → List ℕ
 listed zero j f = []
 listed (suc n) j f = f j ∷ listed n (suc j) f
+
+-- ---- a glance at some pairs, and the pair that has the least square
+
+unfoldable pub withSquare : ℕ → Glance → ℕ → Glance
+withSquare limit g d =
+    record { least = cond (ltb d (g .least)) d (g .least); below = cond (ltb d limit) (g .below + 1) (g .below) }
+
+unfoldable pub glanced : ℕ → Glance → List ℕ → Glance
+glanced limit g [] = g
+glanced limit g (d ∷ ds) = glanced limit (withSquare limit g d) ds
+
+unfoldable pub secondOf : ℕ → ℕ → List ℕ → ℕ
+secondOf least second [] = second
+secondOf least second (d ∷ ds) = cond (eqb d least) second (secondOf least (suc second) ds)
 
 -- ---- one pair after another
 

@@ -4,7 +4,7 @@ ghost use mathlib.Core.Path.{_≡_};
 ghost use Prim.Native.Nat.{suc, _+_, _-_, _*_, _≤_, _<_};
 ghost use Rattle.spacing.specs.MillimetresParts.{reach};
 ghost use Rattle.spacing.specs.Frame.{positions};
-ghost use Rattle.spacing.specs.PairsParts.{Sound, Along, Near, Squares, squaredAt, listed, withPair, withRow, withPairs, startAt};
+ghost use Rattle.spacing.specs.PairsParts.{Sound, Along, Near, Squares, Placed, AllPlaced, spotAt, squaredBetween, squaredAt, listed, withSquare, glanced, secondOf, withRow, withPairs, startAt};
 use super::millimetres::from_corner;
 
 // The smallest squared distance so far with its pair, and how many were below the limit.
@@ -63,35 +63,120 @@ fn from_corner_squared(xs: &[u32; 64], ys: &[u32; 64], zs: &[u32; 64], agents: u
     squares
 }
 
-// One more pair. The earlier one stays where the two are equal.
-fn with_pair(running: Running, squared: u64, first: usize, second: usize, limit: u64) -> Running
-    requires { ⌜ running .below < 4096 ⌝ }
-    ensures { λ r. ⌜ r ≡ withPair limit running squared first second ⌝ }
+// One agent's place, and the square of its distance from the corner.
+struct Spot {
+    x: u32,
+    y: u32,
+    z: u32,
+    square: u64,
+}
+
+fn spot_at(
+    xs: &[u32; 64],
+    ys: &[u32; 64],
+    zs: &[u32; 64],
+    squares: &[u64; 64],
+    agent: usize,
+) -> Spot
+    requires { ⌜ agent < 64 ⌝ }
+    ensures { λ r. ⌜ r ≡ spotAt (now (xs .entry)) (now (ys .entry)) (now (zs .entry)) (now (squares .entry)) agent ⌝ }
 {
-    let below = if squared < limit {
-        running.below + 1
-    } else {
-        running.below
-    };
-    if squared < running.squared {
-        Running {
-            squared,
-            first,
-            second,
-            below,
-        }
-    } else {
-        Running {
-            squared: running.squared,
-            first: running.first,
-            second: running.second,
-            below,
-        }
+    Spot {
+        x: xs[agent],
+        y: ys[agent],
+        z: zs[agent],
+        square: squares[agent],
     }
 }
 
-// The pairs of one agent with those after it. |p - q|^2 is |p|^2 + |q|^2 - 2 p.q, which has no sign to care for and one
-// product for each axis.
+// |p - q|^2 is |p|^2 + |q|^2 - 2 p.q, which has no sign to care for and one product for each axis.
+fn squared_between(p: Spot, q: Spot) -> u64
+    requires { ⌜ Placed p × Placed q ⌝ }
+    ensures { λ r. ⌜ r ≡ squaredBetween p q ⌝ }
+{
+    p.square + q.square - 2 * dot(p.x, p.y, p.z, q.x, q.y, q.z)
+}
+
+// The least of some squared distances and of a bound, and how many were below the limit.
+struct Glance {
+    least: u64,
+    below: u64,
+}
+
+fn with_square(glance: Glance, squared: u64, limit: u64) -> Glance
+    requires { ⌜ glance .below < 4096 ⌝ }
+    ensures { λ r. ⌜ r ≡ withSquare limit glance squared ⌝ }
+{
+    let below = if squared < limit {
+        glance.below + 1
+    } else {
+        glance.below
+    };
+    let least = if squared < glance.least {
+        squared
+    } else {
+        glance.least
+    };
+    Glance { least, below }
+}
+
+// A glance at the pairs of one agent with those after it. It names no pair, so that its loop has no way but one.
+fn glance_along(
+    xs: &[u32; 64],
+    ys: &[u32; 64],
+    zs: &[u32; 64],
+    squares: &[u64; 64],
+    agents: usize,
+    first: usize,
+    limit: u64,
+    start: Glance,
+) -> Glance
+    requires { ⌜ (agents ≤ 64) × (first < agents) × (start .below ≤ 64 * first) ⌝ }
+    requires { ⌜ AllPlaced agents (now xs) (now ys) (now zs) (now squares) ⌝ }
+    ensures { λ r. ⌜ r ≡ glanced limit start
+        (listed (agents - suc first) (suc first) (squaredAt (now (xs .entry)) (now (ys .entry)) (now (zs .entry)) first)) ⌝ }
+    ensures { λ r. ⌜ r .below ≤ 64 * suc first ⌝ }
+{
+    let here = spot_at(xs, ys, zs, squares, first);
+    let mut glance = start;
+    let mut second = first + 1;
+    while second < agents {
+        let there = spot_at(xs, ys, zs, squares, second);
+        glance = with_square(glance, squared_between(here, there), limit);
+        second += 1;
+    }
+    glance
+}
+
+// The first agent after `first` that is so far from it; the number of agents where none is.
+fn second_of(
+    xs: &[u32; 64],
+    ys: &[u32; 64],
+    zs: &[u32; 64],
+    squares: &[u64; 64],
+    agents: usize,
+    first: usize,
+    least: u64,
+) -> usize
+    requires { ⌜ (agents ≤ 64) × (first < agents) ⌝ }
+    requires { ⌜ AllPlaced agents (now xs) (now ys) (now zs) (now squares) ⌝ }
+    ensures { λ r. ⌜ r ≡ secondOf least (suc first)
+        (listed (agents - suc first) (suc first) (squaredAt (now (xs .entry)) (now (ys .entry)) (now (zs .entry)) first)) ⌝ }
+{
+    let here = spot_at(xs, ys, zs, squares, first);
+    let mut second = first + 1;
+    while second < agents {
+        let there = spot_at(xs, ys, zs, squares, second);
+        if squared_between(here, there) == least {
+            return second;
+        }
+        second += 1;
+    }
+    second
+}
+
+// The pairs of one agent with those after it. Which pair is the smallest is looked for only where one is smaller than
+// all before.
 fn with_row(
     xs: &[u32; 64],
     ys: &[u32; 64],
@@ -103,25 +188,31 @@ fn with_row(
     start: Running,
 ) -> Running
     requires { ⌜ (agents ≤ 64) × (first < agents) × (start .below ≤ 64 * first) ⌝ }
-    requires { ⌜ Near agents (now xs) × Near agents (now ys) × Near agents (now zs) ⌝ }
-    requires { ⌜ Squares agents (now xs) (now ys) (now zs) (now squares) ⌝ }
+    requires { ⌜ AllPlaced agents (now xs) (now ys) (now zs) (now squares) ⌝ }
     ensures { λ r. ⌜ r ≡ withRow limit start first (suc first)
         (listed (agents - suc first) (suc first) (squaredAt (now (xs .entry)) (now (ys .entry)) (now (zs .entry)) first)) ⌝ }
     ensures { λ r. ⌜ r .below ≤ 64 * suc first ⌝ }
 {
-    let x = xs[first];
-    let y = ys[first];
-    let z = zs[first];
-    let square = squares[first];
-    let mut running = start;
-    let mut second = first + 1;
-    while second < agents {
-        let twice = 2 * dot(x, y, z, xs[second], ys[second], zs[second]);
-        let squared = square + squares[second] - twice;
-        running = with_pair(running, squared, first, second, limit);
-        second += 1;
+    let bound = Glance {
+        least: start.squared,
+        below: start.below,
+    };
+    let glance = glance_along(xs, ys, zs, squares, agents, first, limit, bound);
+    if glance.least < start.squared {
+        Running {
+            squared: glance.least,
+            first,
+            second: second_of(xs, ys, zs, squares, agents, first, glance.least),
+            below: glance.below,
+        }
+    } else {
+        Running {
+            squared: start.squared,
+            first: start.first,
+            second: start.second,
+            below: glance.below,
+        }
     }
-    running
 }
 
 // All pairs of a frame, from a bound that only a smaller distance replaces.

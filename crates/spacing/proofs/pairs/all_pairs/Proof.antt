@@ -45,7 +45,7 @@ with-row-requires : tie.Need-with-row-requires Inv-loop μ-loop
 with-row-requires c κs =
     let at = c .before .before .before .before .before in
     let axes = at .before .before .before .before .before in
-    ((axes .before .before .before .before .pre .few, c .before .before .before .before .loop-test .taken, at .loop .inv .1), (all-near axes, at .before .from-corner-squared .ensures))
+    ((axes .before .before .before .before .pre .few, c .before .before .before .before .loop-test .taken, at .loop .inv .1), λ k h. (all-near axes .0 k h, all-near axes .1 k h, all-near axes .2 k h, at .before .from-corner-squared .ensures k h))
 
 add-first : tie.Need-add-first Inv-loop μ-loop
 add-first c = omega arith
