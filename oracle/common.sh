@@ -1,10 +1,12 @@
-# What run, ticks, flights, bench and sample share. They source it with the repository as the working directory.
+# What run, ticks, spacing, flights, bench and sample share. They source it with the repository as the working directory.
 # shellcheck shell=bash
 
 built=target/oracle
 # The command that makes the library's calls; build_server sets it.
 server=()
-# The command that makes the fleet table's; build_replay sets it.
+# The command that runs a program of ours; build_program sets it.
+program=()
+# The one that makes the fleet table's calls; build_replay sets it.
 replay=()
 
 # need COMMAND PACKAGE: stops where COMMAND is missing, and names the package that has it.
@@ -86,26 +88,44 @@ build_server() {
     "$compiler" $linked -std=c11 -O2 -Wall -Wextra -Iinclude -o "$built/velocity_server" oracle/velocity_server.c "$library"
 }
 
-# Proves and builds the program replay, which is x86-64 code and asks for that machine's C library. It runs
-# here, or under an emulator that finds the library where it stands for programs of the other machine.
-# GUINEACRUMB_REPLAY may name a program that was built already.
-build_replay() {
-    replay=("${GUINEACRUMB_REPLAY:-target/bin/replay}")
-    if [ "$(uname -m)" != x86_64 ]; then
+# is_x86_64 FILE: whether the file is a program for x86-64, as its ELF header says.
+is_x86_64() {
+    local header
+    header=$(od -An -v -tx1 -N20 "$1" | tr -d ' \n')
+    [[ $header == 7f454c46*3e00 ]]
+}
+
+# build_program NAME: proves and builds that program, and sets `program` to the command that runs it. The variable
+# GUINEACRUMB_NAME, in capitals, may name a file that was built already: GUINEACRUMB_REPLAY, GUINEACRUMB_SPACING_REPORT.
+#
+# What rt builds is x86-64 code, and asks for that machine's C library. On a machine of another kind it runs under an
+# emulator, which finds the library where it stands for programs of the other machine; so does a file named by the
+# variable that is x86-64 code. One that is not, as it was compiled for this very machine, runs as it is.
+build_program() {
+    local name=$1 variable=GUINEACRUMB_${1^^} file emulator=()
+    file=${!variable:-target/bin/$name}
+    if [ "$(uname -m)" != x86_64 ] && { [ -z "${!variable:-}" ] || is_x86_64 "$file"; }; then
         need qemu-x86_64 qemu-user
-        replay=(qemu-x86_64 -L "${QEMU_LD_PREFIX:-/usr/x86_64-linux-gnu}" "${replay[@]}")
+        emulator=(qemu-x86_64 -L "${QEMU_LD_PREFIX:-/usr/x86_64-linux-gnu}")
     fi
-    [ -z "${GUINEACRUMB_REPLAY:-}" ] || return 0
-    need_rt "the program replay"
+    program=("${emulator[@]}" "$file")
+    [ -z "${!variable:-}" ] || return 0
+    need_rt "the program $name"
     mkdir -p "$built"
-    rt check replay >"$built/replay.log" 2>&1 || {
-        cat "$built/replay.log" >&2
+    rt check "$name" >"$built/$name.log" 2>&1 || {
+        cat "$built/$name.log" >&2
         exit 1
     }
 }
 
-# Says so where the library runs under an emulator.
+build_replay() {
+    build_program replay
+    # shellcheck disable=SC2034 # ticks uses it
+    replay=("${program[@]}")
+}
+
+# say_emulated WHO COMMAND ..: says so where the command is run by an emulator.
 say_emulated() {
-    [ "${#server[@]}" -gt 1 ] || return 0
-    echo "The library ran under an emulator: $1"
+    [ $# -gt 2 ] || return 0
+    echo "$1 ran under an emulator: its times, and the ratios, say nothing about the hardware."
 }

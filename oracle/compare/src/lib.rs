@@ -1,4 +1,5 @@
-//! Guineacrumb against the published Rust: the velocity call, and the fleet table.
+//! Guineacrumb against the published Rust: the velocity call, and the fleet table. And its spacing report against one in
+//! plain Rust.
 //!
 //! Guineacrumb is an x86-64 archive, and this program runs on any machine: so the library is reached
 //! through a small C program (`../velocity_server.c`), emulated where it has to be, that makes the calls
@@ -10,14 +11,20 @@
 //! on them, `simulated` works out what has to come of these, and `replay` has the program of that name make them.
 //!
 //! Some of both are written to files, which the gate runs (`stored`).
+//!
+//! The spacing report is compared with `spacing`, which needs nothing of the published Rust: `positions` draws the inputs,
+//! and `spacing_report` has the program of that name read them.
 pub mod calls;
 pub mod case;
 pub mod flights;
 pub mod inputs;
+pub mod positions;
 pub mod published;
 pub mod random;
 pub mod record;
 pub mod replay;
 pub mod server;
 pub mod simulated;
+pub mod spacing;
+pub mod spacing_report;
 pub mod stored;
