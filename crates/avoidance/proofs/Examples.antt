@@ -1,31 +1,37 @@
 -- Document 01's worked examples marked P, but for the roots (`vectors`), proved by running the definitions: `worked-examples` is one
 -- statement over the list of them.
 use mathlib.Core.Path.{_≡_, refl}
+use Prim.Native.Nat.{ℕ}
 use mathlib.Core.List.{List, [], _∷_}
 use lib.Ieee.{Float, add, sub, mul, div, neg, lt, le, eq, isNan, ofBits}
 use Rattle.vectors.specs.declared.Vec3.{Vec3}
 use Rattle.vectors.specs.Number.{ofWord, zero, one, larger, smaller, clamped, finite, plusZero}
-use Rattle.vectors.specs.Vec3.{zeroVec, _+ᵥ_, _-ᵥ_, _*ᵥ_, _/ᵥ_, dot, cross, lengthSquared, lengthRecip, normalize, normalizeOrZero}
+use Rattle.vectors.specs.Vec3.{zeroVec, finiteVec, plusZeros, _+ᵥ_, _-ᵥ_, _*ᵥ_, _/ᵥ_, dot, cross, lengthSquared, lengthRecip, normalize, normalizeOrZero}
 use Rattle.vectors.specs.Root.{root}
-use Rattle.solver.specs.declared.plane.Plane.{Plane}
-use Rattle.solver.specs.declared.plane.Optimum.{Optimum}
-use Rattle.solver.specs.declared.plane.Optimum.the-variants.{Point}
-use Rattle.avoidance.specs.declared.neighbour.Agent.{Agent}
-use Rattle.avoidance.specs.declared.checks.Request.{Request}
-use Rattle.solver.specs.declared.three_d.Failure.{Failure}
-use Rattle.solver.specs.declared.three_d.Outcome.{Outcome}
-use Rattle.solver.specs.declared.three_d.Outcome.the-variants.{Infeasible}
-use Rattle.avoidance.specs.declared.velocity.Reply.{Reply}
-use Rattle.avoidance.specs.declared.velocity.Reply.the-variants.{Free, Relaxed}
+use Rattle.solver.specs.declared.Plane.{Plane}
+use Rattle.solver.specs.declared.Optimum.{Optimum}
+use Rattle.solver.specs.declared.Optimum.the-variants.{Point}
+use Rattle.avoidance.specs.declared.Agent.{Agent}
+use Rattle.avoidance.specs.declared.Request.{Request}
+use Rattle.solver.specs.declared.Failure.{Failure}
+use Rattle.solver.specs.declared.Outcome.{Outcome}
+use Rattle.solver.specs.declared.Outcome.the-variants.{Infeasible}
+use Rattle.avoidance.specs.declared.Reply.{Reply}
+use Rattle.avoidance.specs.declared.Reply.the-variants.{Answered}
+use Rattle.refusals.specs.declared.Found.the-variants.{At, Nothing}
+use Rattle.refusals.specs.Conditions.{firstHolding, marked}
 use Rattle.solver.specs.Plane.{signedDistance, inTurn}
 use Rattle.solver.specs.AlongLine.{alongLine, bestOn, atClamped, pointOn, cutAll, cutBy, openOr}
-use Rattle.solver.specs.AlongPlane.{alongPlane, startOn, onCircle, lineOn, byLine, byConstraint}
-use Rattle.solver.specs.ThreeD.{threeD, startIn, onPlane, byPlane}
+use Rattle.solver.specs.AlongPlane.{alongPlane, startOn, startInCircle, onCircle, lineOn, fromLine, byLine, byConstraint}
+use Rattle.solver.specs.ThreeD.{threeD, startIn, fromPlane, byPlane}
 use Rattle.solver.specs.FourD.{fourD, relaxBy, relaxedTo, turnedAll, kept, turnBy, turnedPlane}
-use Rattle.avoidance.specs.Neighbour.{vectorAt, agentAt, planeFor, relationOf, projected, projectedFree, projectedCollision, collisionNormal, onSphere, onCone, coneTime, share}
-use Rattle.avoidance.specs.Checks.{checks, unless, badFallback, badNeighbours, firstOf, firstBad, bad, outside, kindAt, numbersOf, neighbourCount, scratchFor}
+use Rattle.solver.specs.Lent.{scratchFor}
+use Rattle.avoidance.specs.Lent.{agentCount, vectorAt, agentAt}
+use Rattle.avoidance.specs.Request.{requestNumbers}
+use Rattle.avoidance.specs.Neighbour.{planeFor, relationOf, projected, projectedFree, projectedCollision, collisionNormal, onSphere, onCone, coneTime, share}
+use Rattle.avoidance.specs.Checks.{checks, badFallback, badNeighbours, firstOf, badNumber, outside, callKind}
 use Rattle.solver.specs.Solve.{solve, valueOf}
-use Rattle.avoidance.specs.Velocity.{planesOfCall, planesFrom, planeOf, finiteVec, finitePlane, firstPlane, plusZeros, answered, replyOf, fromPlanes, afterChecks, plannedReply, velocityCall}
+use Rattle.avoidance.specs.Velocity.{planesOfCall, planesFrom, planeOf, finitePlane, answered, replyOf, planesVerdict, plannedReply, velocityCall}
 
 -- ---- what an example says
 
@@ -37,7 +43,7 @@ pub data Example : Type 0 where
 
 abbrev pub Holds : Example → Type 0
 Holds (planes request neighbours these) = planesOfCall request neighbours ≡ these
-Holds (reply request neighbours this) = velocityCall request neighbours (scratchFor (neighbourCount neighbours)) ≡ this
+Holds (reply request neighbours this) = velocityCall request neighbours (scratchFor (agentCount neighbours)) ≡ this
 Holds (program constraints radius optimum this) = threeD constraints radius optimum ≡ this
 Holds (relaxed constraints radius failure this) = fourD constraints radius failure ≡ this
 
@@ -75,6 +81,13 @@ ten = ofWord 0x4120_0000
 abbrev tiny : Float
 tiny = ofWord 0x1780_0000
 
+-- an answer that no plane relaxes, and one that is relaxed from a plane on
+abbrev free : Vec3 → Reply
+free v = Answered (record { velocity = v; relaxed = Nothing })
+
+abbrev relaxedFrom : ℕ → Vec3 → Reply
+relaxedFrom plane v = Answered (record { velocity = v; relaxed = At plane })
+
 abbrev along : Float → Vec3
 along x = record { x = x; y = zero; z = zero }
 
@@ -110,23 +123,23 @@ failed = record { index = 1; value = along one }
 pub worked-examples : All (
     -- free branch
     planes (still half two) (neighbour four) (record { point = along one; normal = along minusOne } ∷ [])
-    ∷ reply (still half two) (neighbour four) (Free (along half))
-    ∷ reply (still one two) (neighbour four) (Free (along one))
-    ∷ reply (still oneAndHalf two) (neighbour four) (Free (along one))
-    ∷ reply (still four two) (neighbour four) (Free (along one))
+    ∷ reply (still half two) (neighbour four) (free (along half))
+    ∷ reply (still one two) (neighbour four) (free (along one))
+    ∷ reply (still oneAndHalf two) (neighbour four) (free (along one))
+    ∷ reply (still four two) (neighbour four) (free (along one))
     -- touching
     ∷ planes (still zero one) (neighbour two) (record { point = along zero; normal = along minusOne } ∷ [])
     -- coincident
     ∷ planes (still zero one) (neighbour zero) (record { point = up two; normal = up one } ∷ [])
-    ∷ reply (still zero one) (neighbour zero) (Relaxed (up one) 0)
+    ∷ reply (still zero one) (neighbour zero) (relaxedFrom 0 (up one))
     -- two opposed planes
     ∷ program opposed two (Point zero zero zero) (Infeasible failed)
     ∷ relaxed opposed two failed (along zero)
     -- head-on past the ring
     ∷ planes headOn (neighbour five) (record { point = along ten; normal = along zero } ∷ [])
-    ∷ reply headOn (neighbour five) (Free (along ten))
+    ∷ reply headOn (neighbour five) (free (along ten))
     -- no neighbours, and a square that underflows
-    ∷ reply (still tiny zero) [] (Free (along tiny))
+    ∷ reply (still tiny zero) [] (free (along tiny))
     ∷ [])
-unfolding threeD startIn onPlane byPlane inTurn alongPlane startOn onCircle lineOn byLine byConstraint alongLine bestOn atClamped pointOn cutAll cutBy openOr signedDistance fourD relaxBy relaxedTo turnedAll kept turnBy turnedPlane _+ᵥ_ _-ᵥ_ _*ᵥ_ dot cross lengthSquared normalize root larger smaller clamped add sub mul div neg lt le eq isNan ofBits planesOfCall planesFrom planeOf vectorAt agentAt planeFor relationOf projected projectedFree projectedCollision collisionNormal onSphere onCone coneTime share _/ᵥ_ lengthRecip normalizeOrZero zeroVec finite plusZero finiteVec finitePlane firstPlane plusZeros answered replyOf fromPlanes afterChecks plannedReply velocityCall solve valueOf checks unless badFallback badNeighbours firstOf firstBad bad outside kindAt numbersOf
+unfolding threeD startIn fromPlane byPlane inTurn alongPlane startOn startInCircle onCircle lineOn fromLine byLine byConstraint alongLine bestOn atClamped pointOn cutAll cutBy openOr signedDistance fourD relaxBy relaxedTo turnedAll kept turnBy turnedPlane _+ᵥ_ _-ᵥ_ _*ᵥ_ dot cross lengthSquared normalize root larger smaller clamped add sub mul div neg lt le eq isNan ofBits planesOfCall planesFrom planeOf vectorAt agentAt planeFor relationOf projected projectedFree projectedCollision collisionNormal onSphere onCone coneTime share _/ᵥ_ lengthRecip normalizeOrZero zeroVec finite plusZero finiteVec finitePlane plusZeros answered replyOf planesVerdict plannedReply velocityCall solve valueOf checks badFallback badNeighbours firstOf badNumber outside callKind requestNumbers firstHolding marked
 worked-examples = (refl, (refl, (refl, (refl, (refl, (refl, (refl, (refl, (refl, (refl, (refl, (refl, (refl, tt)))))))))))))

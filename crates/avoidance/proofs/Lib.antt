@@ -1,3 +1,8 @@
 -- What is proved of the definitions themselves.
 pub mod Refusals
+pub mod ReplyLaws
+pub mod RequestLaws
+pub mod AgentNumbers
+pub mod Ranges
 pub mod Examples
+pub mod Velocities

@@ -1,6 +1,9 @@
 -- The velocity call, document 01's module 7: planes from neighbours, the checks, and the answer. To be read beside lib.rs.
+pub mod Lent
+pub mod Request
 pub mod Neighbour
 pub mod Checks
+pub mod Reply
 pub mod Velocity
-pub mod VelocityScratch
-pub mod Refusals
+pub mod Conditions
+pub mod parts

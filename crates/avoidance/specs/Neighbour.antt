@@ -1,42 +1,28 @@
 -- `get_plane_for_neighbour`. What the Rust calls vo_normal, relative_velocity_projected_to_vo and inside_vo is a `Projection` here.
 use mathlib.Core.Bool.{Bool, true, _&&_, cond}
-use mathlib.Core.List.{List}
-use lib.ListN.{getD, drop}
-use lib.Ieee.{Float, nan, neg}
+use lib.Ieee.{Float, neg}
 use Rattle.vectors.specs.declared.Vec3.{Vec3}
 use Rattle.vectors.specs.Number.{_⊕_, _⊖_, _⊗_, _⊘_, _<ᶠ_, _>ᶠ_, zero, one, finite}
 use Rattle.vectors.specs.Vec3.{zeroVec, _+ᵥ_, _-ᵥ_, _*ᵥ_, _/ᵥ_, dot, cross, lengthSquared, lengthRecip, normalizeOrZero}
 use Rattle.vectors.specs.Root.{root}
-use Rattle.solver.specs.declared.plane.Plane.{Plane}
-use Rattle.avoidance.specs.declared.neighbour.Agent.{Agent}
+use Rattle.solver.specs.declared.Plane.{Plane}
+use Rattle.avoidance.specs.declared.Agent.{Agent}
 use Rattle.avoidance.specs.declared.neighbour.Relation.{Relation}
 use Rattle.avoidance.specs.declared.neighbour.Projection.{Projection}
 use Rattle.solver.specs.Plane.{signedDistance}
-
--- ---- numbers lent
-
--- the vector in the first three numbers of a list
-unfoldable pub vectorAt : List Float → Vec3
-vectorAt xs = record { x = getD xs 0 nan; y = getD xs 1 nan; z = getD xs 2 nan }
-
--- the agent in the first eight
-unfoldable pub agentAt : List Float → Agent
-agentAt xs = record { position = vectorAt xs; velocity = vectorAt (drop 3 xs); radius = getD xs 6 nan; responsibility = getD xs 7 nan }
-
--- ---- the plane
 
 -- relative_neighbour_position, relative_agent_velocity and sum_radius
 unfoldable pub relationOf : Agent → Agent → Relation
 relationOf agent neighbour = record {
   position = neighbour .position -ᵥ agent .position;
   velocity = agent .velocity -ᵥ neighbour .velocity;
-  radius = agent .radius ⊕ neighbour .radius;
+  «radius_sum» = agent .radius ⊕ neighbour .radius;
 }
 
 -- before the tangent ring: onto the cut-off sphere
 unfoldable pub onSphere : Relation → Float → Vec3 → Vec3 → Projection
 onSphere relation horizon center fromCenter =
-    let radius = relation .radius ⊘ horizon in
+    let radius = relation .«radius_sum» ⊘ horizon in
     let normal = normalizeOrZero fromCenter in
     record {
       normal = normal;
@@ -44,10 +30,10 @@ onSphere relation horizon center fromCenter =
       inside = lengthSquared fromCenter <ᶠ radius ⊗ radius;
     }
 
--- t: the root of a negative is NaN here
+-- t, at which velocity + t * position shows the cone's normal; the root of a negative is NaN here
 unfoldable pub coneTime : Relation → Float
 coneTime relation =
-    let legSquared = lengthSquared (relation .position) ⊖ relation .radius ⊗ relation .radius in
+    let legSquared = lengthSquared (relation .position) ⊖ relation .«radius_sum» ⊗ relation .«radius_sum» in
     let raysSquared = lengthSquared (cross (relation .position) (relation .velocity)) in
     let a = lengthSquared (relation .position) in
     let b = dot (relation .position) (relation .velocity) in
@@ -71,7 +57,7 @@ projectedFree relation horizon =
     let center = relation .position /ᵥ horizon in
     let fromCenter = relation .velocity -ᵥ center in
     let along = dot fromCenter (relation .position) in
-    cond (along <ᶠ zero && along ⊗ along >ᶠ relation .radius ⊗ relation .radius ⊗ lengthSquared fromCenter)
+    cond (along <ᶠ zero && along ⊗ along >ᶠ relation .«radius_sum» ⊗ relation .«radius_sum» ⊗ lengthSquared fromCenter)
     (onSphere relation horizon center fromCenter)
     (onCone relation)
 
@@ -84,7 +70,7 @@ collisionNormal fromCenter fallback =
 unfoldable pub projectedCollision : Relation → Float → Vec3 → Projection
 projectedCollision relation timeStep fallback =
     let center = relation .position /ᵥ timeStep in
-    let radius = relation .radius ⊘ timeStep in
+    let radius = relation .«radius_sum» ⊘ timeStep in
     let normal = collisionNormal (relation .velocity -ᵥ center) fallback in
     record {
       normal = normal;
@@ -95,7 +81,7 @@ projectedCollision relation timeStep fallback =
 -- distance squared > radius sum squared is the free branch, equality collides
 unfoldable pub projected : Relation → Float → Float → Vec3 → Projection
 projected relation horizon timeStep fallback =
-    cond (lengthSquared (relation .position) >ᶠ relation .radius ⊗ relation .radius)
+    cond (lengthSquared (relation .position) >ᶠ relation .«radius_sum» ⊗ relation .«radius_sum»)
     (projectedFree relation horizon)
     (projectedCollision relation timeStep fallback)
 

@@ -1,124 +1,50 @@
-// Document 01, module 7: the velocity call's request, and its checks 1 to 5. The definitions are in
-// `specs/Checks.antt`.
+// Document 01, module 7: the velocity call's checks 1 to 5. The definitions are in `specs/Checks.antt`.
 ghost use mathlib.Core.Path.{_≡_};
 ghost use mathlib.Core.Bool.{true, false};
 ghost use Prim.Native.Nat.{_≤_};
 ghost use Rattle.vectors.specs.Number.{_<ᶠ_, zero};
-ghost use Rattle.avoidance.specs.Checks.{numbersOf, readRequest, kindAt, outside, bad, firstBad, firstOf, badFallback, checks};
-use super::neighbour::Agent;
-use super::neighbour::agent_at;
-use super::neighbour::vector_at;
+ghost use Rattle.refusals.specs.Conditions.{firstBad};
+ghost use Rattle.avoidance.specs.Checks.{outside, callKind, badNumber, firstOf, badFallback, checks};
+ghost use Rattle.avoidance.specs.Request.{perRequest};
+use super::AGENT_NUMBERS;
+use super::Asked;
+use super::FALLBACK_PLACE;
+use super::HORIZON_PLACE;
+use super::Kind;
+use super::MAX_SPEED_PLACE;
+use super::MOST_NEIGHBOURS;
+use super::RADIUS_PLACE;
+use super::REQUEST_NUMBERS;
+use super::RESPONSIBILITY_PLACE;
+use super::Request;
+use super::TIME_STEP_PLACE;
+use refusals::Found;
+use refusals::Refusal;
+use refusals::Verdict;
+use solver::SCRATCH_NUMBERS;
 use vectors::Vec3;
 use vectors::number::is_finite;
 
-pub struct Request {
-    pub agent: Agent,
-    pub preferred: Vec3,
-    pub max_speed: f32,
-    pub time_step: f32,
-    pub horizon: f32,
-    pub fallback: Vec3,
-}
-
-// What reading a request from lent numbers gives.
-pub enum ReadRequest {
-    Is(Request),
-    BadLength,
-}
-
-// The first place at which something was found.
-pub enum Found {
-    At(usize),
-    Nothing,
-}
-
-// What a number at a place may be.
-pub enum Kind {
-    Any,
-    NotNegative,
-    Positive,
-}
-
-// What is asked of every number: to be finite, or to be in its range.
-pub enum Asked {
-    Finite,
-    InRange,
-}
-
-// What the checks say.
-pub enum Checked {
-    Passed,
-    BadNeighbours,
-    ShortScratch { needed: usize },
-    NotFinite { place: usize },
-    OutOfRange { place: usize },
-    BadFallback,
-}
-
-impl Request {
-    // The request whose 17 numbers are lent, each at its place.
-    pub fn read(numbers: &[f32]) -> ReadRequest
-        ensures { λ r. ⌜ r ≡ readRequest (now (numbers .entry)) ⌝ }
-    {
-        if numbers.len() != 17 {
-            return ReadRequest::BadLength;
-        }
-        ReadRequest::Is(Request {
-            agent: agent_at(numbers, 0),
-            preferred: vector_at(numbers, 8),
-            max_speed: numbers[11],
-            time_step: numbers[12],
-            horizon: numbers[13],
-            fallback: vector_at(numbers, 14),
-        })
-    }
-}
-
-// The request's numbers, each at its place.
-fn numbers_of(request: Request) -> [f32; 17]
-    ensures { λ r. ⌜ r ≡ numbersOf request ⌝ }
-{
-    [
-        request.agent.position.x,
-        request.agent.position.y,
-        request.agent.position.z,
-        request.agent.velocity.x,
-        request.agent.velocity.y,
-        request.agent.velocity.z,
-        request.agent.radius,
-        request.agent.responsibility,
-        request.preferred.x,
-        request.preferred.y,
-        request.preferred.z,
-        request.max_speed,
-        request.time_step,
-        request.horizon,
-        request.fallback.x,
-        request.fallback.y,
-        request.fallback.z,
-    ]
-}
-
 // The neighbours' numbers follow the request's 17, eight to each, of which the last two are the radius
 // and the responsibility.
-fn kind_at(place: usize) -> Kind
-    ensures { λ r. ⌜ r ≡ kindAt place ⌝ }
+fn call_kind(place: usize) -> Kind
+    ensures { λ r. ⌜ r ≡ callKind place ⌝ }
 {
-    if 17 <= place {
-        if 6 <= (place - 17) % 8 {
+    if REQUEST_NUMBERS <= place {
+        if RADIUS_PLACE <= (place - REQUEST_NUMBERS) % AGENT_NUMBERS {
             Kind::NotNegative
         } else {
             Kind::Any
         }
-    } else if place == 6 {
+    } else if place == RADIUS_PLACE {
         Kind::NotNegative
-    } else if place == 7 {
+    } else if place == RESPONSIBILITY_PLACE {
         Kind::NotNegative
-    } else if place == 11 {
+    } else if place == MAX_SPEED_PLACE {
         Kind::NotNegative
-    } else if place == 12 {
+    } else if place == TIME_STEP_PLACE {
         Kind::Positive
-    } else if place == 13 {
+    } else if place == HORIZON_PLACE {
         Kind::Positive
     } else {
         Kind::Any
@@ -137,18 +63,18 @@ pub fn is_outside(kind: Kind, x: f32) -> bool
 }
 
 fn is_bad(asked: Asked, place: usize, x: f32) -> bool
-    ensures { λ r. ⌜ r ≡ bad asked place x ⌝ }
+    ensures { λ r. ⌜ r ≡ badNumber asked place x ⌝ }
 {
     match asked {
         Asked::Finite => !is_finite(x),
-        Asked::InRange => is_outside(kind_at(place), x),
+        Asked::InRange => is_outside(call_kind(place), x),
     }
 }
 
 // The lowest place of a bad number, where the first one is at `start`.
 fn first_bad(asked: Asked, start: usize, numbers: &[f32]) -> Found
-    requires { ⌜ start ≤ 17 ⌝ }
-    ensures { λ r. ⌜ r ≡ firstBad asked start (now (numbers .entry)) ⌝ }
+    requires { ⌜ start ≤ perRequest ⌝ }
+    ensures { λ r. ⌜ r ≡ firstBad (badNumber asked) start (now (numbers .entry)) ⌝ }
 {
     let mut index = 0;
     while index < numbers.len() {
@@ -163,7 +89,7 @@ fn first_bad(asked: Asked, start: usize, numbers: &[f32]) -> Found
 // Whether every number of the neighbours is finite. With no way out before the end, the loop looks at
 // several at a time.
 fn all_finite(numbers: &[f32]) -> bool
-    ensures { λ r. ⌜ (r ≡ true → firstBad Asked.Finite 17 (now (numbers .entry)) ≡ Found.Nothing) ⌝ }
+    ensures { λ r. ⌜ (r ≡ true → firstBad (badNumber Asked.Finite) perRequest (now (numbers .entry)) ≡ Found.Nothing) ⌝ }
 {
     let mut all = true;
     let mut index = 0;
@@ -188,17 +114,20 @@ fn is_negative(radius: f32, responsibility: f32) -> bool
 
 // Whether every number of the neighbours is in its range. Only two of each eight can be out of it.
 fn all_in_range(numbers: &[f32]) -> bool
-    ensures { λ r. ⌜ (r ≡ true → firstBad Asked.InRange 17 (now (numbers .entry)) ≡ Found.Nothing) ⌝ }
+    ensures { λ r. ⌜ (r ≡ true → firstBad (badNumber Asked.InRange) perRequest (now (numbers .entry)) ≡ Found.Nothing) ⌝ }
 {
-    if numbers.len() % 8 != 0 {
+    if numbers.len() % AGENT_NUMBERS != 0 {
         return false;
     }
-    let count = numbers.len() / 8;
+    let count = numbers.len() / AGENT_NUMBERS;
     let mut all = true;
     let mut index = 0;
     while index < count {
-        let at = 8 * index;
-        if is_negative(numbers[at + 6], numbers[at + 7]) {
+        let at = AGENT_NUMBERS * index;
+        if is_negative(
+            numbers[at + RADIUS_PLACE],
+            numbers[at + RESPONSIBILITY_PLACE],
+        ) {
             all = false;
         }
         index += 1;
@@ -208,7 +137,7 @@ fn all_in_range(numbers: &[f32]) -> bool
 
 // Whether it is seen at once that none of the neighbours' numbers is bad.
 fn none_bad(asked: Asked, neighbours: &[f32]) -> bool
-    ensures { λ r. ⌜ (r ≡ true → firstBad asked 17 (now (neighbours .entry)) ≡ Found.Nothing) ⌝ }
+    ensures { λ r. ⌜ (r ≡ true → firstBad (badNumber asked) perRequest (now (neighbours .entry)) ≡ Found.Nothing) ⌝ }
 {
     match asked {
         Asked::Finite => all_finite(neighbours),
@@ -219,7 +148,7 @@ fn none_bad(asked: Asked, neighbours: &[f32]) -> bool
 fn first_of(asked: Asked, request: Request, neighbours: &[f32]) -> Found
     ensures { λ r. ⌜ r ≡ firstOf asked request (now (neighbours .entry)) ⌝ }
 {
-    let numbers = numbers_of(request);
+    let numbers = request.numbers();
     let own = first_bad(asked, 0, &numbers);
     let Found::Nothing = own else {
         return own;
@@ -227,7 +156,7 @@ fn first_of(asked: Asked, request: Request, neighbours: &[f32]) -> Found
     if none_bad(asked, neighbours) {
         return Found::Nothing;
     }
-    first_bad(asked, 17, neighbours)
+    first_bad(asked, REQUEST_NUMBERS, neighbours)
 }
 
 pub fn bad_fallback(fallback: Vec3) -> bool
@@ -242,28 +171,30 @@ pub fn bad_fallback(fallback: Vec3) -> bool
 }
 
 // Each check is finished over all its numbers before the next.
-pub fn checks(request: Request, neighbours: &[f32], scratch_length: usize) -> Checked
+pub fn checks(request: Request, neighbours: &[f32], scratch_length: usize) -> Verdict
     ensures { λ r. ⌜ r ≡ checks request (now (neighbours .entry)) «scratch_length» ⌝ }
 {
-    if neighbours.len() % 8 != 0 {
-        return Checked::BadNeighbours;
+    if neighbours.len() % AGENT_NUMBERS != 0 {
+        return Verdict::Refused(Refusal::BadNeighbours);
     }
-    let count = neighbours.len() / 8;
-    if 63 < count {
-        return Checked::BadNeighbours;
+    let count = neighbours.len() / AGENT_NUMBERS;
+    if MOST_NEIGHBOURS < count {
+        return Verdict::Refused(Refusal::BadNeighbours);
     }
-    let needed = 12 * count;
+    let needed = SCRATCH_NUMBERS * count;
     if scratch_length < needed {
-        return Checked::ShortScratch { needed };
+        return Verdict::Refused(Refusal::ShortScratch { needed });
     }
     if let Found::At(place) = first_of(Asked::Finite, request, neighbours) {
-        return Checked::NotFinite { place };
+        return Verdict::Refused(Refusal::NotFinite { place });
     }
     if let Found::At(place) = first_of(Asked::InRange, request, neighbours) {
-        return Checked::OutOfRange { place };
+        return Verdict::Refused(Refusal::OutOfRange { place });
     }
     if bad_fallback(request.fallback) {
-        return Checked::BadFallback;
+        return Verdict::Refused(Refusal::BadFallback {
+            place: FALLBACK_PLACE,
+        });
     }
-    Checked::Passed
+    Verdict::Passed
 }

@@ -1,27 +1,19 @@
 // Document 01, module 7, its first part: `get_plane_for_neighbour` of lib.rs. The definitions are in
 // `specs/Neighbour.antt`.
 ghost use mathlib.Core.Path.{_≡_};
-ghost use Prim.Native.Nat.{_+_, _≤_};
-ghost use lib.ListN.{length, drop};
-ghost use Rattle.avoidance.specs.Neighbour.{vectorAt, agentAt, onSphere, coneTime, onCone, projectedFree, collisionNormal, projectedCollision, projected, share, planeFor};
-use solver::plane::Plane;
+ghost use Rattle.avoidance.specs.Neighbour.{onSphere, coneTime, onCone, projectedFree, collisionNormal, projectedCollision, projected, share, planeFor};
+use super::Agent;
+use solver::Plane;
 use vectors::Vec3;
 use vectors::number::is_finite;
 use vectors::root::root;
-
-pub struct Agent {
-    pub position: Vec3,
-    pub velocity: Vec3,
-    pub radius: f32,
-    pub responsibility: f32,
-}
 
 // What both agents make of their relation: the other's place and our velocity, each as seen from the
 // other agent, and the sum of the radii.
 pub struct Relation {
     pub position: Vec3,
     pub velocity: Vec3,
-    pub radius: f32,
+    pub radius_sum: f32,
 }
 
 // The relative velocity projected to the velocity obstacle, the obstacle's normal there, and whether
@@ -32,36 +24,11 @@ pub struct Projection {
     pub inside: bool,
 }
 
-// The vector in the three numbers from `at` on.
-pub(crate) fn vector_at(numbers: &[f32], at: usize) -> Vec3
-    requires { ⌜ at + 3 ≤ length (now numbers) ⌝ }
-    ensures { λ r. ⌜ r ≡ vectorAt (drop at (now (numbers .entry))) ⌝ }
-{
-    Vec3 {
-        x: numbers[at],
-        y: numbers[at + 1],
-        z: numbers[at + 2],
-    }
-}
-
-// The agent in the eight numbers from `at` on.
-pub(crate) fn agent_at(numbers: &[f32], at: usize) -> Agent
-    requires { ⌜ at + 8 ≤ length (now numbers) ⌝ }
-    ensures { λ r. ⌜ r ≡ agentAt (drop at (now (numbers .entry))) ⌝ }
-{
-    Agent {
-        position: vector_at(numbers, at),
-        velocity: vector_at(numbers, at + 3),
-        radius: numbers[at + 6],
-        responsibility: numbers[at + 7],
-    }
-}
-
 // Onto the cut-off sphere.
 fn on_sphere(relation: Relation, horizon: f32, center: Vec3, from_center: Vec3) -> Projection
     ensures { λ r. ⌜ r ≡ onSphere relation horizon center «from_center» ⌝ }
 {
-    let radius = relation.radius / horizon;
+    let radius = relation.radius_sum / horizon;
     let normal = from_center.normalize_or_zero();
     Projection {
         normal,
@@ -70,12 +37,20 @@ fn on_sphere(relation: Relation, horizon: f32, center: Vec3, from_center: Vec3) 
     }
 }
 
-// The time at which the relative velocity, moved along the relative position, lies on the cone.
+// The time t at which the relative velocity, moved along the relative position, shows the cone's normal.
+//
+// Past the tangent ring the obstacle is a cone about the relative position p, with its tip at 0 and rays that graze the
+// sphere of the radius sum. Of the triangle that a ray makes with p the leg along the ray has the square
+// |p|^2 - radius sum^2, and the cosine of the cone's half angle is that leg / |p|.
+// The normal next to the relative velocity v lies in the plane of p and v and is square to a ray: it leans away from p
+// by the half angle. Let v + t * p point that way. Its distance from the axis is that of v, |p x v| / |p|, and is also
+// its length times the cosine. So |v + t * p|^2 = |p x v|^2 / leg^2: a * t^2 + 2 * b * t + c = 0, with the 2 factored
+// out of the solution. Of the two solutions the smaller leans away from p.
 fn cone_time(relation: Relation) -> f32
     ensures { λ r. ⌜ r ≡ coneTime relation ⌝ }
 {
     let a = relation.position.length_squared();
-    let leg_squared = a - relation.radius * relation.radius;
+    let leg_squared = a - relation.radius_sum * relation.radius_sum;
     let rays_squared = relation.position.cross(relation.velocity).length_squared();
     let b = relation.position.dot(relation.velocity);
     let c = relation.velocity.length_squared() - rays_squared / leg_squared;
@@ -111,7 +86,7 @@ fn projected_free(relation: Relation, horizon: f32) -> Projection
     let from_center = relation.velocity.sub(center);
     let dot = from_center.dot(relation.position);
     if dot < 0.0 {
-        let reach = relation.radius * relation.radius * from_center.length_squared();
+        let reach = relation.radius_sum * relation.radius_sum * from_center.length_squared();
         if dot * dot > reach {
             return on_sphere(relation, horizon, center, from_center);
         }
@@ -141,7 +116,7 @@ fn projected_collision(relation: Relation, time_step: f32, fallback: Vec3) -> Pr
     ensures { λ r. ⌜ r ≡ projectedCollision relation «time_step» fallback ⌝ }
 {
     let center = relation.position.div(time_step);
-    let radius = relation.radius / time_step;
+    let radius = relation.radius_sum / time_step;
     let normal = collision_normal(relation.velocity.sub(center), fallback);
     Projection {
         normal,
@@ -153,7 +128,7 @@ fn projected_collision(relation: Relation, time_step: f32, fallback: Vec3) -> Pr
 fn projected(relation: Relation, horizon: f32, time_step: f32, fallback: Vec3) -> Projection
     ensures { λ r. ⌜ r ≡ projected relation horizon «time_step» fallback ⌝ }
 {
-    if relation.position.length_squared() > relation.radius * relation.radius {
+    if relation.position.length_squared() > relation.radius_sum * relation.radius_sum {
         projected_free(relation, horizon)
     } else {
         projected_collision(relation, time_step, fallback)
@@ -180,7 +155,7 @@ pub fn plane_for(
     let relation = Relation {
         position: neighbour.position.sub(agent.position),
         velocity: agent.velocity.sub(neighbour.velocity),
-        radius: agent.radius + neighbour.radius,
+        radius_sum: agent.radius + neighbour.radius,
     };
     let projection = projected(relation, horizon, time_step, fallback);
     let part = share(

@@ -5,34 +5,30 @@ use Prim.Native.Nat.{ℕ, zero, suc, _-_, _≤_, _<_, min}
 use native.Mathlib.Omega.{arith}
 use lib.ListN.{length, take, drop, replicate, length-take, length-drop, length-append, take-append-drop}
 use lib.Seq.{take-append-le, drop-append-le, take-at, take-append-seam}
-use Rattle.fleet.specs.declared.Record.{Record}
+use Rattle.records.specs.declared.Record.{Record}
 use Rattle.fleet.specs.declared.Tick.{Tick}
 use Rattle.fleet.specs.declared.Fleet.{Fleet}
-use Rattle.fleet.specs.Record.{blank}
-use Rattle.fleet.specs.Table.{agents, inTick}
+use Rattle.fleet.proofs.Lists.{take-taken}
+use Rattle.records.specs.Record.{blank}
+use Rattle.fleet.specs.Table.{agents, standingOf, holdingNothing}
 
 -- a count over 64 reads as 64
-pub agents-length : (fleet : Fleet) → length (fleet .records) ≡ 64 → length (agents fleet) ≡ min (fleet .count) 64
+pub agents-length : (fleet : Fleet) → length (fleet .standing .records) ≡ 64 → length (agents fleet) ≡ min (fleet .standing .count) 64
 unfolding agents
-agents-length fleet all = length-take (fleet .count) (fleet .records) ∙ ap (min (fleet .count)) all
+agents-length fleet all = length-take (fleet .standing .count) (fleet .standing .records) ∙ ap (min (fleet .standing .count)) all
 
-pub agents-within : (fleet : Fleet) → length (fleet .records) ≡ 64 → length (agents fleet) ≤ 64
+pub agents-within : (fleet : Fleet) → length (fleet .standing .records) ≡ 64 → length (agents fleet) ≤ 64
 agents-within fleet all = omega (arith, agents-length fleet all)
 
-take-counted : {A : Type 0} (n : ℕ) (l : List A) → take (length (take n l)) l ≡ take n l
-take-counted zero l = refl
-take-counted (suc n) [] = refl
-take-counted (suc n) (x ∷ xs) = ap (_∷_ x) (take-counted n xs)
-
 -- so many records are the agents as are counted
-pub agents-are : (fleet : Fleet) (count : ℕ) → count ≡ length (agents fleet) → take count (fleet .records) ≡ agents fleet
+pub agents-are : (fleet : Fleet) (count : ℕ) → count ≡ length (agents fleet) → take count (fleet .standing .records) ≡ agents fleet
 unfolding agents
-agents-are fleet count is = rw (is, take-counted (fleet .count) (fleet .records))
+agents-are fleet count is = rw (is, take-taken (fleet .standing .count) (fleet .standing .records))
 
 -- a fleet of these records has these agents
-pub agents-in-tick : (tick : Tick) (rs : List Record) → agents (inTick tick rs) ≡ rs
-unfolding agents inTick
-agents-in-tick tick rs = take-append-seam rs (replicate (64 - length rs) blank)
+pub agents-holding : (tick : Tick) (rs : List Record) → agents (holdingNothing tick rs) ≡ rs
+unfolding agents holdingNothing standingOf
+agents-holding tick rs = take-append-seam rs (replicate (64 - length rs) blank)
 
 -- without the element at `index`, a list that starts with xs starts with xs without it
 without-prefix : {A : Type 0} (xs ys after : List A) (index : ℕ) → index < length xs

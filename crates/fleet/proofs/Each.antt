@@ -1,5 +1,5 @@
 -- Laws on two lists taken element by element.
-use mathlib.Core.Path.{_≡_, refl, ap}
+use mathlib.Core.Path.{_≡_, refl, sym, ap, _∙_}
 use mathlib.Core.List.{List, [], _∷_, _++_, append-assoc, append-nil}
 use Prim.Native.Nat.{ℕ, zero, suc, _+_, _≤_, _<_}
 use native.Mathlib.Nat.{not-suc-le-zero, le-of-suc-le-suc}
@@ -38,3 +38,36 @@ module _ {A B C : Type 0} (f : A → B → C) where
   pub each-end : (i : ℕ) (out : List C) (xs : List A) (ys : List B) → length out ≤ i → length xs ≤ i → soFar f i out xs ys ≡ out
   unfolding each
   each-end i out xs ys ho hx = rw (take-all i out ho, drop-of-length-le xs hx) (append-nil out)
+
+  -- only as many are read as there are of the first list
+  pub each-front : (xs : List A) (ys : List B) → each f xs ys ≡ each f xs (take (length xs) ys)
+  unfolding each
+  each-front [] ys = refl
+  each-front (x ∷ xs) [] = refl
+  each-front (x ∷ xs) (y ∷ ys) = ap (λ (l : List C). f x y ∷ l) (each-front xs ys)
+
+  pub each-length : (xs : List A) (ys : List B) → length xs ≤ length ys → length (each f xs ys) ≡ length xs
+  unfolding each
+  each-length [] ys h = refl
+  each-length (x ∷ xs) [] h = absurd (not-suc-le-zero h)
+  each-length (x ∷ xs) (y ∷ ys) h = ap suc (each-length xs ys (le-of-suc-le-suc h))
+
+  pub each-at : (xs : List A) (ys : List B) (i : ℕ) (d : A) (e : B) (c : C) → i < length xs → i < length ys
+      → getD (each f xs ys) i c ≡ f (getD xs i d) (getD ys i e)
+  unfolding each
+  each-at [] ys i d e c h k = absurd (not-suc-le-zero h)
+  each-at (x ∷ xs) [] i d e c h k = absurd (not-suc-le-zero k)
+  each-at (x ∷ xs) (y ∷ ys) zero d e c h k = refl
+  each-at (x ∷ xs) (y ∷ ys) (suc i) d e c h k = each-at xs ys i d e c (le-of-suc-le-suc h) (le-of-suc-le-suc k)
+
+  pub each-set : (xs : List A) (ys : List B) (i : ℕ) (y : B) (d : A) → i < length xs → i < length ys
+      → each f xs (set ys i y) ≡ set (each f xs ys) i (f (getD xs i d) y)
+  unfolding each
+  each-set [] ys i y d h k = absurd (not-suc-le-zero h)
+  each-set (x ∷ xs) [] i y d h k = absurd (not-suc-le-zero k)
+  each-set (x ∷ xs) (z ∷ ys) zero y d h k = refl
+  each-set (x ∷ xs) (z ∷ ys) (suc i) y d h k = ap (λ (l : List C). f x z ∷ l) (each-set xs ys i y d (le-of-suc-le-suc h) (le-of-suc-le-suc k))
+
+  -- second lists that agree as far as they are read give the same
+  pub each-same : (xs : List A) (ys zs : List B) → take (length xs) ys ≡ take (length xs) zs → each f xs ys ≡ each f xs zs
+  each-same xs ys zs same = each-front xs ys ∙ ap (each f xs) same ∙ sym (each-front xs zs)

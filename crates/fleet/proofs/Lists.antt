@@ -2,7 +2,7 @@
 use mathlib.Core.Path.{_≡_, refl, sym, ap, _∙_}
 use mathlib.Core.List.{List, [], _∷_, _++_, append-assoc, append-nil}
 use Prim.Native.Nat.{ℕ, zero, suc, _+_, _-_, _≤_, _<_}
-use native.Mathlib.Nat.{not-suc-le-zero, le-of-suc-le-suc}
+use native.Mathlib.Nat.{not-suc-le-zero, le-of-suc-le-suc, zero-lt-suc}
 use native.Mathlib.Numerals.{add-one}
 use native.Mathlib.Omega.{arith}
 use lib.ListN.{length, getD, take, drop, set, replicate, take-append-drop}
@@ -39,3 +39,14 @@ filled-end n a i l all h =
 
 pub written-step : {A : Type 0} (l : List A) (i : ℕ) (a : A) (rest : List A) → i < length l → take (i + 1) (set l i a) ++ rest ≡ take i l ++ a ∷ rest
 written-step l i a rest h = rw (add-one i, take-suc-set l i a h) (append-snoc (take i l) a rest)
+
+-- ---- two lists that agree as far as they are read
+
+pub take-same : {A : Type 0} (n : ℕ) (ys zs : List A) (d : A) → n ≤ length ys → n ≤ length zs
+    → ((i : ℕ) → i < n → getD ys i d ≡ getD zs i d) → take n ys ≡ take n zs
+take-same zero ys zs d hy hz same = refl
+take-same (suc n) [] zs d hy hz same = absurd (not-suc-le-zero hy)
+take-same (suc n) (y ∷ ys) [] d hy hz same = absurd (not-suc-le-zero hz)
+take-same {A} (suc n) (y ∷ ys) (z ∷ zs) d hy hz same =
+    ap (λ (x : A). x ∷ take n ys) (same 0 (zero-lt-suc n))
+    ∙ ap (λ (l : List A). z ∷ l) (take-same n ys zs d (le-of-suc-le-suc hy) (le-of-suc-le-suc hz) (λ i h. same (suc i) (omega (arith, h))))

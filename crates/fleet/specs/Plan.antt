@@ -7,15 +7,18 @@ use lib.ListN.{getD}
 use lib.Ieee.{Float}
 use Rattle.vectors.specs.Number.{_⊕_, _⊗_, _≤ᶠ_, _>ᶠ_, ofWord}
 use Rattle.vectors.specs.Vec3.{_-ᵥ_, distanceSquared}
-use Rattle.avoidance.specs.declared.checks.Request.{Request}
-use Rattle.avoidance.specs.declared.velocity.Reply.{Reply}
-use Rattle.avoidance.specs.declared.velocity.Reply.the-variants.{Free, Relaxed, BadNeighbours, ShortScratch, NotFinite, OutOfRange, BadFallback, PlaneNotFinite, NoVelocity}
+use Rattle.refusals.specs.declared.Refusal.the-variants.{NoTick}
+use Rattle.refusals.specs.declared.Verdict.{Verdict}
+use Rattle.refusals.specs.declared.Verdict.the-variants.{Passed, Refused}
+use Rattle.refusals.specs.Verdict.{settledBy}
+use Rattle.avoidance.specs.declared.Request.{Request}
+use Rattle.avoidance.specs.declared.Reply.{Reply}
+use Rattle.avoidance.specs.Lent.{agentNumbers}
+use Rattle.avoidance.specs.Reply.{isAnswered, velocityOf, renamed}
 use Rattle.avoidance.specs.Velocity.{velocityCall, scratchAfter}
+use Rattle.records.specs.declared.Record.{Record}
+use Rattle.records.specs.Record.{blank, agentOf, positionOf, radiusOf, goalOf, maxSpeedOf, horizonOf, fallbackOf}
 use Rattle.fleet.specs.declared.Answer.the-variants as answer
-use Rattle.fleet.specs.declared.Refusal.the-variants.{NoTick}
-use Rattle.fleet.specs.declared.Verdict.{Verdict}
-use Rattle.fleet.specs.declared.Verdict.the-variants.{Passed, Refused}
-use Rattle.fleet.specs.declared.Record.{Record}
 use Rattle.fleet.specs.declared.Rule.{Rule}
 use Rattle.fleet.specs.declared.Rule.the-variants.{Source, Near}
 use Rattle.fleet.specs.declared.Slot.{Slot}
@@ -23,8 +26,7 @@ use Rattle.fleet.specs.declared.Tick.{Tick}
 use Rattle.fleet.specs.declared.Tick.the-variants.{Shut, Open}
 use Rattle.fleet.specs.declared.Fleet.{Fleet}
 use Rattle.fleet.specs.declared.Called.{Called}
-use Rattle.fleet.specs.Record.{blank, numberAt, agentOf, positionOf, radiusOf, goalOf, maxSpeedOf, horizonOf, fallbackOf}
-use Rattle.fleet.specs.Table.{agents, settled, agentAt}
+use Rattle.fleet.specs.Table.{agents, settled, hasAgent}
 use Rattle.fleet.specs.Tick.{withHeld}
 
 -- ---- the neighbours
@@ -50,22 +52,10 @@ keptFrom rule own index j (other ∷ others) =
     let later = keptFrom rule own index (suc j) others in
     cond (not (eqb j index) && keeps rule own other) (j ∷ later) later
 
--- words 0 to 7 as numbers
-unfoldable pub agentNumbers : Record → List Float
-agentNumbers r =
-    numberAt r 0
-    ∷ numberAt r 1
-    ∷ numberAt r 2
-    ∷ numberAt r 3
-    ∷ numberAt r 4
-    ∷ numberAt r 5
-    ∷ numberAt r 6
-    ∷ numberAt r 7
-    ∷ []
-
-unfoldable pub numbersOf : List Record → List ℕ → List Float
-numbersOf rs [] = []
-numbersOf rs (j ∷ js) = agentNumbers (getD rs j blank) ++ numbersOf rs js
+-- the numbers of the agents at these indices
+unfoldable pub neighbourNumbers : List Record → List ℕ → List Float
+neighbourNumbers rs [] = []
+neighbourNumbers rs (j ∷ js) = agentNumbers (agentOf (getD rs j blank)) ++ neighbourNumbers rs js
 
 -- ---- the velocity call for an agent
 
@@ -82,51 +72,31 @@ requestFor own timeStep = record {
 abbrev pub standing : List Record → ℕ → Record
 standing rs index = getD rs index blank
 
-unfoldable pub kept : Rule → List Record → ℕ → List ℕ
-kept rule rs index = keptFrom rule (standing rs index) index 0 rs
+unfoldable pub neighbourIndices : Rule → List Record → ℕ → List ℕ
+neighbourIndices rule rs index = keptFrom rule (standing rs index) index 0 rs
 
 unfoldable pub neighboursOf : Rule → List Record → ℕ → List Float
-neighboursOf rule rs index = numbersOf rs (kept rule rs index)
+neighboursOf rule rs index = neighbourNumbers rs (neighbourIndices rule rs index)
 
--- for 6 the place is the neighbour's table index
-unfoldable pub byIndex : List ℕ → Reply → Reply
-byIndex js (Free v) = Free v
-byIndex js (Relaxed v k) = Relaxed v k
-byIndex js BadNeighbours = BadNeighbours
-byIndex js (ShortScratch needed) = ShortScratch needed
-byIndex js (NotFinite place) = NotFinite place
-byIndex js (OutOfRange place) = OutOfRange place
-byIndex js BadFallback = BadFallback
-byIndex js (PlaneNotFinite neighbour) = PlaneNotFinite (getD js neighbour 0)
-byIndex js NoVelocity = NoVelocity
-
+-- neighbours go by their table indices
 unfoldable pub replyFor : Float → Rule → List Record → ℕ → ℕ → Reply
 replyFor timeStep rule rs index scratchLength =
-    byIndex (kept rule rs index)
+    renamed (neighbourIndices rule rs index)
     (velocityCall (requestFor (standing rs index) timeStep) (neighboursOf rule rs index) scratchLength)
 
-unfoldable pub scratchFor : Float → Rule → List Record → ℕ → List Float → List Float
-scratchFor timeStep rule rs index scratch =
+unfoldable pub replyScratch : Float → Rule → List Record → ℕ → List Float → List Float
+replyScratch timeStep rule rs index scratch =
     scratchAfter (requestFor (standing rs index) timeStep) (neighboursOf rule rs index) scratch
 
 -- ---- plan
 
 -- an answered velocity is held until the tick ends; a refusal leaves an earlier one standing
 unfoldable pub plansAfter : List Slot → ℕ → Reply → List Slot
-plansAfter plans index (Free v) = withHeld plans index v
-plansAfter plans index (Relaxed v k) = withHeld plans index v
-plansAfter plans index BadNeighbours = plans
-plansAfter plans index (ShortScratch needed) = plans
-plansAfter plans index (NotFinite place) = plans
-plansAfter plans index (OutOfRange place) = plans
-plansAfter plans index BadFallback = plans
-plansAfter plans index (PlaneNotFinite neighbour) = plans
-plansAfter plans index NoVelocity = plans
+plansAfter plans index reply = cond (isAnswered reply) (withHeld plans index (velocityOf reply)) plans
 
 unfoldable pub fleetAfter : Fleet → ℕ → Reply → Fleet
 fleetAfter fleet index reply = record {
-  count = fleet .count;
-  records = fleet .records;
+  standing = fleet .standing;
   tick = fleet .tick;
   plans = plansAfter (fleet .plans) index reply;
   goals = fleet .goals;
@@ -138,7 +108,7 @@ answeredBy (Refused refusal) fleet index reply = record { answer = answer.Refuse
 
 unfoldable pub planOpen : Float → Rule → Fleet → ℕ → ℕ → Called
 planOpen timeStep rule fleet index scratchLength =
-    answeredBy (agentAt fleet index) fleet index (replyFor timeStep rule (agents fleet) index scratchLength)
+    answeredBy (hasAgent fleet index) fleet index (replyFor timeStep rule (agents fleet) index scratchLength)
 
 unfoldable pub planIn : Tick → Fleet → ℕ → ℕ → Called
 planIn Shut fleet index scratchLength = settled (Refused NoTick) fleet fleet
@@ -155,7 +125,7 @@ scratchOf (Refused refusal) scratch after = scratch
 
 unfoldable pub scratchOpen : Float → Rule → Fleet → ℕ → List Float → List Float
 scratchOpen timeStep rule fleet index scratch =
-    scratchOf (agentAt fleet index) scratch (scratchFor timeStep rule (agents fleet) index scratch)
+    scratchOf (hasAgent fleet index) scratch (replyScratch timeStep rule (agents fleet) index scratch)
 
 unfoldable pub scratchIn : Tick → Fleet → ℕ → List Float → List Float
 scratchIn Shut fleet index scratch = scratch

@@ -1,47 +1,53 @@
 -- The table: its agents as a list of records, and the calls add, put, remove and read.
-use Prim.Native.Nat.{ℕ, suc, _+_, _-_}
+use Prim.Native.Nat.{ℕ, suc}
 use mathlib.Core.Bool.{cond}
 use mathlib.Core.List.{List, [], _∷_, _++_}
 use lib.Dec.{ltb}
 use lib.ListN.{length, getD, take, drop, set, replicate}
+use Rattle.refusals.specs.declared.Refusal.the-variants.{Full, TickOpen}
+use Rattle.refusals.specs.declared.Verdict.{Verdict}
+use Rattle.refusals.specs.declared.Verdict.the-variants.{Passed, Refused}
+use Rattle.refusals.specs.Verdict.{_⊳_}
+use Rattle.records.specs.declared.Record.{Record}
+use Rattle.records.specs.Record.{mostAgents, blank}
+use Rattle.records.specs.Checks.{indexAmong, recordVerdict}
+use Rattle.records.specs.File.{filled}
 use Rattle.fleet.specs.declared.Answer.{Answer}
 use Rattle.fleet.specs.declared.Answer.the-variants as answer
-use Rattle.fleet.specs.declared.Refusal.the-variants.{NoAgent, Full, TickOpen}
-use Rattle.fleet.specs.declared.Verdict.{Verdict}
-use Rattle.fleet.specs.declared.Verdict.the-variants.{Passed, Refused}
-use Rattle.fleet.specs.declared.Record.{Record}
 use Rattle.fleet.specs.declared.Held.the-variants.{Nothing}
 use Rattle.fleet.specs.declared.Slot.{Slot}
 use Rattle.fleet.specs.declared.Tick.{Tick}
 use Rattle.fleet.specs.declared.Tick.the-variants.{Shut, Open}
+use Rattle.fleet.specs.declared.Standing.{Standing}
 use Rattle.fleet.specs.declared.Fleet.{Fleet}
 use Rattle.fleet.specs.declared.Called.{Called}
 use Rattle.fleet.specs.declared.Read.{Read}
-use Rattle.fleet.specs.Answer.{mostAgents, _⊳_}
-use Rattle.fleet.specs.Record.{blank, recordVerdict}
 
 -- ---- a fleet and its agents
 
 -- the standing records; a count over 64 reads as 64
 unfoldable pub agents : Fleet → List Record
-agents fleet = take (fleet .count) (fleet .records)
+agents fleet = take (fleet .standing .count) (fleet .standing .records)
 
 -- so many slots with nothing held
 unfoldable pub nothingHeld : List Slot
 nothingHeld = replicate mostAgents (record { held = Nothing })
 
--- outside a tick a fleet is its records: past them all is blank, and nothing is held
-unfoldable pub inTick : Tick → List Record → Fleet
-inTick tick rs = record {
-  count = length rs;
-  records = rs ++ replicate (mostAgents - length rs) blank;
+-- the agents, and blank records past them
+unfoldable pub standingOf : List Record → Standing
+standingOf rs = record { count = length rs; records = filled rs }
+
+-- a fleet as it is outside a tick and at the opening of one
+unfoldable pub holdingNothing : Tick → List Record → Fleet
+holdingNothing tick rs = record {
+  standing = standingOf rs;
   tick = tick;
   plans = nothingHeld;
   goals = nothingHeld;
 }
 
 abbrev pub fleetOf : List Record → Fleet
-fleetOf rs = inTick Shut rs
+fleetOf rs = holdingNothing Shut rs
 
 -- ---- what a call hands back
 
@@ -56,17 +62,14 @@ unfoldable pub shut : Tick → Verdict
 shut Shut = Passed
 shut (Open timeStep rule) = Refused TickOpen
 
--- one of so many agents has that index
-abbrev pub agentAmong : ℕ → ℕ → Verdict
-agentAmong count index = cond (ltb index count) Passed (Refused (NoAgent index))
-
-unfoldable pub agentAt : Fleet → ℕ → Verdict
-agentAt fleet index = agentAmong (length (agents fleet)) index
+-- one of its agents has that index
+unfoldable pub hasAgent : Fleet → ℕ → Verdict
+hasAgent fleet index = indexAmong (length (agents fleet)) index
 
 -- ---- add
 
 unfoldable pub room : ℕ → Verdict
-room count = cond (ltb count mostAgents) Passed (Refused Full)
+room count = cond (ltb count mostAgents) Passed (Refused (Full mostAgents))
 
 unfoldable pub addVerdict : Tick → ℕ → Record → Verdict
 addVerdict tick count r = shut tick ⊳ room count ⊳ recordVerdict 0 r
@@ -82,7 +85,7 @@ addCall fleet words =
 -- ---- put
 
 unfoldable pub putVerdict : Tick → ℕ → ℕ → Record → Verdict
-putVerdict tick count index r = shut tick ⊳ agentAmong count index ⊳ recordVerdict 0 r
+putVerdict tick count index r = shut tick ⊳ indexAmong count index ⊳ recordVerdict 0 r
 
 abbrev pub withRecord : Fleet → ℕ → Record → Fleet
 withRecord fleet index r = fleetOf (set (agents fleet) index r)
@@ -95,7 +98,7 @@ putCall fleet index words =
 -- ---- remove
 
 unfoldable pub removeVerdict : Tick → ℕ → ℕ → Verdict
-removeVerdict tick count index = shut tick ⊳ agentAmong count index
+removeVerdict tick count index = shut tick ⊳ indexAmong count index
 
 -- later agents move down by one, all their words with them
 unfoldable pub removed : Fleet → ℕ → Fleet
@@ -114,7 +117,7 @@ answerTo (Refused refusal) = answer.Refused refusal
 -- the standing record's words, in a tick too; zeros where it is refused
 unfoldable pub readCall : Fleet → ℕ → Read
 readCall fleet index = record {
-  answer = answerTo (agentAt fleet index);
+  answer = answerTo (hasAgent fleet index);
   words = getD (agents fleet) index blank .words;
   fleet = fleet;
 }

@@ -1,19 +1,23 @@
 -- The tick: the calls open, goal, close and drop.
-use Prim.Native.Nat.{ℕ, suc}
-use mathlib.Core.Bool.{Bool, true, false, cond}
+use Prim.Native.Nat.{ℕ, _+_}
+use mathlib.Core.Bool.{Bool, true, false, not, cond}
 use mathlib.Core.List.{List, [], _∷_}
 use lib.ListN.{length, getD, take, set}
 use lib.Ieee.{Float}
 use Rattle.vectors.specs.declared.Vec3.{Vec3}
 use Rattle.vectors.specs.Number.{_>ᶠ_, zero, finite}
-use Rattle.vectors.specs.Vec3.{_+ᵥ_, _*ᵥ_}
-use Rattle.avoidance.specs.declared.checks.Found.{Found}
-use Rattle.avoidance.specs.declared.checks.Found.the-variants as found
-use Rattle.avoidance.specs.Velocity.{finiteVec}
-use Rattle.fleet.specs.declared.Refusal.the-variants.{NotFinite, OutOfRange, NoTick, Unplanned, PositionNotFinite}
-use Rattle.fleet.specs.declared.Verdict.{Verdict}
-use Rattle.fleet.specs.declared.Verdict.the-variants.{Passed, Refused}
-use Rattle.fleet.specs.declared.Record.{Record}
+use Rattle.vectors.specs.Vec3.{finiteVec, _+ᵥ_, _*ᵥ_}
+use Rattle.refusals.specs.declared.Found.{Found}
+use Rattle.refusals.specs.declared.Found.the-variants as found
+use Rattle.refusals.specs.declared.Refusal.the-variants.{NotFinite, OutOfRange, NoTick, Unplanned, PositionNotFinite}
+use Rattle.refusals.specs.declared.Verdict.{Verdict}
+use Rattle.refusals.specs.declared.Verdict.the-variants.{Passed, Refused}
+use Rattle.refusals.specs.Conditions.{firstBad}
+use Rattle.refusals.specs.Verdict.{_⊳_, refusedAt}
+use Rattle.avoidance.specs.Request.{timeStepPlace}
+use Rattle.records.specs.declared.Record.{Record}
+use Rattle.records.specs.Record.{goalWord, blank, positionOf, withGoal, movedTo}
+use Rattle.records.specs.Checks.{indexAmong}
 use Rattle.fleet.specs.declared.Rule.{Rule}
 use Rattle.fleet.specs.declared.Held.{Held}
 use Rattle.fleet.specs.declared.Held.the-variants.{Nothing, Vector}
@@ -22,9 +26,7 @@ use Rattle.fleet.specs.declared.Tick.{Tick}
 use Rattle.fleet.specs.declared.Tick.the-variants.{Shut, Open}
 use Rattle.fleet.specs.declared.Fleet.{Fleet}
 use Rattle.fleet.specs.declared.Called.{Called}
-use Rattle.fleet.specs.Answer.{_⊳_, refusedAt}
-use Rattle.fleet.specs.Record.{blank, withVector, positionOf}
-use Rattle.fleet.specs.Table.{agents, inTick, fleetOf, settled, shut, agentAmong}
+use Rattle.fleet.specs.Table.{agents, holdingNothing, fleetOf, settled, shut}
 
 -- two lists, element by element
 unfoldable pub each : {A B C : Type 0} → (A → B → C) → List A → List B → List C
@@ -32,38 +34,30 @@ each f [] ys = []
 each f (x ∷ xs) [] = []
 each f (x ∷ xs) (y ∷ ys) = f x y ∷ each f xs ys
 
--- the index of the first element that fails the test, where the first of all has the index i
-unfoldable pub firstNot : {A : Type 0} → (A → Bool) → ℕ → List A → Found
-firstNot passes i [] = found.Nothing
-firstNot passes i (x ∷ xs) = cond (passes x) (firstNot passes (suc i) xs) (found.At i)
-
 -- ---- open
 
--- the time step is at the place 12, as in the velocity call
+-- the time step is at its place in the velocity call
 unfoldable pub stepVerdict : Float → Verdict
 stepVerdict timeStep =
-    cond (finite timeStep) (cond (timeStep >ᶠ zero) Passed (Refused (OutOfRange 12))) (Refused (NotFinite 12))
+    cond (finite timeStep) (cond (timeStep >ᶠ zero) Passed (Refused (OutOfRange timeStepPlace))) (Refused (NotFinite timeStepPlace))
 
 unfoldable pub openVerdict : Tick → Float → Verdict
 openVerdict tick timeStep = shut tick ⊳ stepVerdict timeStep
 
 unfoldable pub openCall : Fleet → Float → Rule → Called
 openCall fleet timeStep rule =
-    settled (openVerdict (fleet .tick) timeStep) fleet (inTick (Open timeStep rule) (agents fleet))
+    settled (openVerdict (fleet .tick) timeStep) fleet (holdingNothing (Open timeStep rule) (agents fleet))
 
 -- ---- goal
 
--- the first component that is not finite; a goal's components are the words 8 to 10
+-- the first component that is not finite; a goal's components stand in three words
 unfoldable pub goalFault : Vec3 → Found
 goalFault goal =
-    cond (finite (goal .x)) (cond (finite (goal .y)) (cond (finite (goal .z)) found.Nothing (found.At 10)) (found.At 9)) (found.At 8)
+    cond (finite (goal .x)) (cond (finite (goal .y)) (cond (finite (goal .z)) found.Nothing (found.At (goalWord + 2))) (found.At (goalWord + 1))) (found.At goalWord)
 
 -- 8, where there are `count` agents, then 3
 unfoldable pub goalVerdict : ℕ → ℕ → Vec3 → Verdict
-goalVerdict count index goal = agentAmong count index ⊳ refusedAt (goalFault goal) NotFinite
-
-unfoldable pub withGoal : Vec3 → Record → Record
-withGoal goal r = withVector r 8 goal
+goalVerdict count index goal = indexAmong count index ⊳ refusedAt (goalFault goal) NotFinite
 
 -- held for the agent at the index, in place of an earlier one
 unfoldable pub withHeld : List Slot → ℕ → Vec3 → List Slot
@@ -72,8 +66,7 @@ withHeld slots index v = set slots index (record { held = Vector v })
 -- in a tick it is held: of those taken up in call order, the last one stands
 unfoldable pub holdGoal : Fleet → ℕ → Vec3 → Fleet
 holdGoal fleet index goal = record {
-  count = fleet .count;
-  records = fleet .records;
+  standing = fleet .standing;
   tick = fleet .tick;
   plans = fleet .plans;
   goals = withHeld (fleet .goals) index goal;
@@ -102,37 +95,37 @@ ended rs goals = fleetOf (goalsTaken rs goals)
 
 -- ---- close
 
-unfoldable pub planned : Held → Bool
-planned Nothing = false
-planned (Vector velocity) = true
+unfoldable pub hasPlan : Held → Bool
+hasPlan Nothing = false
+hasPlan (Vector velocity) = true
 
-unfoldable pub firstUnplanned : List Slot → Found
-firstUnplanned plans = firstNot (λ (plan : Slot). planned (plan .held)) 0 plans
+abbrev pub unplanned : ℕ → Slot → Bool
+unplanned index plan = not (hasPlan (plan .held))
 
 -- where a plan takes an agent
 unfoldable pub arrival : Float → Record → Held → Vec3
 arrival timeStep r Nothing = positionOf r
 arrival timeStep r (Vector velocity) = positionOf r +ᵥ velocity *ᵥ timeStep
 
--- the first position with a component that is not finite
-unfoldable pub firstAstray : List Vec3 → Found
-firstAstray positions = firstNot finiteVec 0 positions
+-- a position with a component that is not finite
+abbrev pub astray : ℕ → Vec3 → Bool
+astray index position = not (finiteVec position)
 
-unfoldable pub moved : Float → Record → Held → Record
-moved timeStep r Nothing = r
-moved timeStep r (Vector velocity) = withVector (withVector r 3 velocity) 0 (arrival timeStep r (Vector velocity))
+unfoldable pub movedBy : Float → Record → Held → Record
+movedBy timeStep r Nothing = r
+movedBy timeStep r (Vector velocity) = movedTo r (arrival timeStep r (Vector velocity)) velocity
 
 unfoldable pub arrivals : Float → List Record → List Slot → List Vec3
 arrivals timeStep rs plans = each (λ (r : Record) (plan : Slot). arrival timeStep r (plan .held)) rs plans
 
 unfoldable pub allMoved : Float → List Record → List Slot → List Record
-allMoved timeStep rs plans = each (λ (r : Record) (plan : Slot). moved timeStep r (plan .held)) rs plans
+allMoved timeStep rs plans = each (λ (r : Record) (plan : Slot). movedBy timeStep r (plan .held)) rs plans
 
 -- 12 before 13
 unfoldable pub closeVerdict : Float → List Record → List Slot → Verdict
 closeVerdict timeStep rs plans =
-    refusedAt (firstUnplanned (take (length rs) plans)) Unplanned
-    ⊳ refusedAt (firstAstray (arrivals timeStep rs plans)) PositionNotFinite
+    refusedAt (firstBad unplanned 0 (take (length rs) plans)) Unplanned
+    ⊳ refusedAt (firstBad astray 0 (arrivals timeStep rs plans)) PositionNotFinite
 
 unfoldable pub closeOpen : Float → Fleet → Called
 closeOpen timeStep fleet =

@@ -4,41 +4,49 @@ ghost use mathlib.Core.Path.{_≡_};
 ghost use Prim.Native.Nat.{_+_, _≤_, _<_};
 ghost use lib.ListN.{length, take};
 ghost use lib.Seq.{sets};
-ghost use Rattle.fleet.specs.Plan.{queryDistance, keeps, keptFrom, agentNumbers, requestFor, byIndex, replyFor, scratchFor, plansAfter, fleetAfter, answeredBy, planOpen, planCall, scratchOpen, planScratch};
-ghost use Rattle.fleet.specs.Neighbours.{Lists, withNeighbour};
+ghost use Rattle.avoidance.specs.Lent.{perAgent, agentNumbers};
+ghost use Rattle.records.specs.Record.{mostAgents};
+ghost use Rattle.fleet.specs.Plan.{queryDistance, keeps, keptFrom, requestFor, replyFor, replyScratch, plansAfter, fleetAfter, answeredBy, planOpen, planCall, scratchOpen, planScratch};
+ghost use Rattle.fleet.specs.parts.Plan.{roomForNumbers, Lists, withNeighbour};
 use super::Answer;
 use super::Called;
 use super::Fleet;
-use super::Record;
-use super::Refusal;
 use super::Rule;
 use super::Slot;
 use super::Tick;
-use super::Verdict;
 use super::table::refused;
 use super::ticks::with_held;
-use avoidance::checks::Request;
-use avoidance::velocity::Reply;
+use avoidance::AGENT_NUMBERS;
+use avoidance::Agent;
+use avoidance::Reply;
+use avoidance::Request;
 use avoidance::velocity::velocity;
+use records::MOST_AGENTS;
+use records::Record;
+use refusals::Refusal;
+use refusals::Verdict;
+
+// Room for the numbers of as many neighbours as there can be agents.
+const ROOM: usize = 512;
 
 // The neighbours of a plan, eight numbers to each, and their indices in the table.
 struct Neighbours {
     count: usize,
-    numbers: [f32; 512],
-    indices: [usize; 64],
+    numbers: [f32; ROOM],
+    indices: [usize; MOST_AGENTS],
 }
 
 // q: an agent farther away than this is not near.
 fn query_distance(own: Record) -> f32
     ensures { λ r. ⌜ r ≡ queryDistance own ⌝ }
 {
-    own.number(11) * own.number(12) + own.number(6) * 2.0
+    own.max_speed() * own.horizon() + own.radius() * 2.0
 }
 
 fn keeps(rule: Rule, own: Record, other: Record) -> bool
     ensures { λ r. ⌜ r ≡ keeps rule own other ⌝ }
 {
-    let distance_squared = own.vector(0).distance_squared(other.vector(0));
+    let distance_squared = own.position().distance_squared(other.position());
     let query = query_distance(own);
     match rule {
         Rule::Source => distance_squared > query * query,
@@ -47,28 +55,28 @@ fn keeps(rule: Rule, own: Record, other: Record) -> bool
 }
 
 // Writes the agent's eight numbers from `at` on.
-fn write_agent(numbers: &mut [f32; 512], at: usize, stored: Record)
-    requires { ⌜ at + 8 ≤ 512 ⌝ }
-    ensures { λ _. ⌜ now (numbers .exit) ≡ sets (now (numbers .entry)) at (agentNumbers stored) ⌝ }
+fn write_agent(numbers: &mut [f32; ROOM], at: usize, agent: Agent)
+    requires { ⌜ at + perAgent ≤ roomForNumbers ⌝ }
+    ensures { λ _. ⌜ now (numbers .exit) ≡ sets (now (numbers .entry)) at (agentNumbers agent) ⌝ }
 {
-    numbers[at] = stored.number(0);
-    numbers[at + 1] = stored.number(1);
-    numbers[at + 2] = stored.number(2);
-    numbers[at + 3] = stored.number(3);
-    numbers[at + 4] = stored.number(4);
-    numbers[at + 5] = stored.number(5);
-    numbers[at + 6] = stored.number(6);
-    numbers[at + 7] = stored.number(7);
+    numbers[at] = agent.position.x;
+    numbers[at + 1] = agent.position.y;
+    numbers[at + 2] = agent.position.z;
+    numbers[at + 3] = agent.velocity.x;
+    numbers[at + 4] = agent.velocity.y;
+    numbers[at + 5] = agent.velocity.z;
+    numbers[at + 6] = agent.radius;
+    numbers[at + 7] = agent.responsibility;
 }
 
 // One neighbour more, after the others.
 fn with_neighbour(neighbours: Neighbours, index: usize, stored: Record) -> Neighbours
-    requires { ⌜ neighbours .count < 64 ⌝ }
+    requires { ⌜ neighbours .count < mostAgents ⌝ }
     ensures { λ r. ⌜ r ≡ withNeighbour neighbours index stored ⌝ }
 {
     let mut out = neighbours;
     let count = out.count;
-    write_agent(&mut out.numbers, 8 * count, stored);
+    write_agent(&mut out.numbers, AGENT_NUMBERS * count, stored.agent());
     out.indices[count] = index;
     out.count = count + 1;
     out
@@ -79,16 +87,16 @@ fn neighbours_of(
     rule: Rule,
     own: Record,
     index: usize,
-    records: [Record; 64],
+    records: [Record; MOST_AGENTS],
     count: usize,
 ) -> Neighbours
-    requires { ⌜ count ≤ 64 ⌝ }
+    requires { ⌜ count ≤ mostAgents ⌝ }
     ensures { λ r. ⌜ Lists (take count records) (keptFrom rule own index 0 (take count records)) r ⌝ }
 {
     let mut kept = Neighbours {
         count: 0,
-        numbers: [0.0; 512],
-        indices: [0; 64],
+        numbers: [0.0; ROOM],
+        indices: [0; MOST_AGENTS],
     };
     let mut at = 0;
     while at < count {
@@ -109,67 +117,52 @@ fn request_for(own: Record, time_step: f32) -> Request
 {
     Request {
         agent: own.agent(),
-        preferred: own.vector(8).sub(own.vector(0)),
-        max_speed: own.number(11),
+        preferred: own.goal().sub(own.position()),
+        max_speed: own.max_speed(),
         time_step,
-        horizon: own.number(12),
-        fallback: own.vector(13),
+        horizon: own.horizon(),
+        fallback: own.fallback(),
     }
 }
 
-// For 6 the place is the neighbour's table index.
-fn by_index(indices: [usize; 64], count: usize, reply: Reply) -> Reply
-    requires { ⌜ count ≤ 64 ⌝ }
-    ensures { λ r. ⌜ r ≡ byIndex (take count indices) reply ⌝ }
-{
-    let Reply::PlaneNotFinite { neighbour } = reply else {
-        return reply;
-    };
-    let index = if neighbour < count {
-        indices[neighbour]
-    } else {
-        0
-    };
-    Reply::PlaneNotFinite { neighbour: index }
-}
-
-// The velocity call for the agent at `index`, on the standing records.
+// The velocity call for the agent at `index`, on the standing records, with its neighbours by their table indices.
 fn reply_for(
     time_step: f32,
     rule: Rule,
-    records: [Record; 64],
+    records: [Record; MOST_AGENTS],
     count: usize,
     index: usize,
     scratch: &mut [f32],
 ) -> Reply
-    requires within { ⌜ count ≤ 64 ⌝ }
+    requires within { ⌜ count ≤ mostAgents ⌝ }
     requires there { ⌜ index < count ⌝ }
     ensures answer { λ r. ⌜ r ≡ replyFor «time_step» rule (take count records) index (length (now (scratch .entry))) ⌝ }
-    ensures scratch { λ r. ⌜ now (scratch .exit) ≡ scratchFor «time_step» rule (take count records) index (now (scratch .entry)) ⌝ }
+    ensures scratch { λ r. ⌜ now (scratch .exit) ≡ replyScratch «time_step» rule (take count records) index (now (scratch .entry)) ⌝ }
 {
     let own = records[index];
     let kept = neighbours_of(rule, own, index, records, count);
     let numbers = kept.numbers;
-    let length = 8 * kept.count;
+    let count = kept.count;
+    let length = AGENT_NUMBERS * count;
     let reply = velocity(request_for(own, time_step), &numbers[..length], scratch);
     let indices = kept.indices;
-    by_index(indices, kept.count, reply)
+    reply.renamed(&indices[..count])
 }
 
 // An answered velocity is held until the tick ends. A refusal leaves an earlier one standing.
-fn plans_after(plans: [Slot; 64], index: usize, reply: Reply) -> [Slot; 64]
-    requires { ⌜ index < 64 ⌝ }
+fn plans_after(plans: [Slot; MOST_AGENTS], index: usize, reply: Reply) -> [Slot; MOST_AGENTS]
+    requires { ⌜ index < mostAgents ⌝ }
     ensures { λ r. ⌜ r ≡ plansAfter plans index reply ⌝ }
 {
-    match reply {
-        Reply::Free(velocity) => with_held(plans, index, velocity),
-        Reply::Relaxed { velocity, plane: _ } => with_held(plans, index, velocity),
-        _ => plans,
+    if reply.is_answered() {
+        with_held(plans, index, reply.velocity())
+    } else {
+        plans
     }
 }
 
 fn fleet_after(mut fleet: Fleet, index: usize, reply: Reply) -> Fleet
-    requires { ⌜ index < 64 ⌝ }
+    requires { ⌜ index < mostAgents ⌝ }
     ensures { λ r. ⌜ r ≡ fleetAfter fleet index reply ⌝ }
 {
     let plans = fleet.plans;
@@ -179,7 +172,7 @@ fn fleet_after(mut fleet: Fleet, index: usize, reply: Reply) -> Fleet
 }
 
 fn answered(fleet: Fleet, index: usize, reply: Reply) -> Called
-    requires { ⌜ index < 64 ⌝ }
+    requires { ⌜ index < mostAgents ⌝ }
     ensures { λ r. ⌜ r ≡ answeredBy Verdict.Passed fleet index reply ⌝ }
 {
     Called {
@@ -197,7 +190,7 @@ fn plan_open(fleet: Fleet, time_step: f32, rule: Rule, index: usize, scratch: &m
     if count <= index {
         return refused(fleet, Refusal::NoAgent { index });
     }
-    let records = fleet.records;
+    let records = fleet.standing.records;
     let reply = reply_for(time_step, rule, records, count, index, scratch);
     answered(fleet, index, reply)
 }

@@ -3,58 +3,78 @@ ghost use mathlib.Core.Path.{_≡_};
 ghost use Prim.Native.Nat.{suc, _-_, _≤_, _<_, min};
 ghost use mathlib.Core.List.{[], _∷_, _++_};
 ghost use lib.ListN.{length, getD, take, drop, replicate};
-ghost use Rattle.fleet.specs.Record.{blank};
-ghost use Rattle.fleet.specs.Table.{agents, nothingHeld, inTick, fleetOf, settled, addVerdict, added, addCall, putVerdict, withRecord, putCall, removeVerdict, removed, removeCall, agentAmong, answerTo, readCall};
+ghost use Rattle.records.specs.Record.{mostAgents, blank};
+ghost use Rattle.records.specs.Checks.{indexAmong};
+ghost use Rattle.fleet.specs.Table.{agents, nothingHeld, standingOf, holdingNothing, fleetOf, settled, addVerdict, added, addCall, putVerdict, withRecord, putCall, removeVerdict, removed, removeCall, answerTo, readCall};
 use super::Answer;
 use super::Called;
 use super::Fleet;
 use super::Held;
 use super::Read;
-use super::Record;
-use super::Refusal;
 use super::Slot;
+use super::Standing;
 use super::Tick;
-use super::Verdict;
-use super::records::record_verdict;
+use records::MOST_AGENTS;
+use records::RECORD_WORDS;
+use records::Record;
+use refusals::Refusal;
+use refusals::Verdict;
 
-pub(crate) fn nothing_held() -> [Slot; 64]
+// The index of the last place in the table.
+const LAST: usize = 63;
+
+pub(crate) fn nothing_held() -> [Slot; MOST_AGENTS]
     ensures { λ r. ⌜ r ≡ nothingHeld ⌝ }
 {
     [Slot {
         held: Held::Nothing,
-    }; 64]
+    }; MOST_AGENTS]
 }
 
 // The nearest count in range.
 fn in_range(count: usize) -> usize
-    ensures { λ r. ⌜ r ≡ min count 64 ⌝ }
+    ensures { λ r. ⌜ r ≡ min count mostAgents ⌝ }
 {
-    if 64 < count { 64 } else { count }
+    if MOST_AGENTS < count {
+        MOST_AGENTS
+    } else {
+        count
+    }
 }
 
 // The first `count` records, and blank ones after them.
-fn blanked(records: [Record; 64], count: usize) -> [Record; 64]
-    ensures { λ r. ⌜ r ≡ take count records ++ replicate (64 - count) blank ⌝ }
+fn blanked(records: [Record; MOST_AGENTS], count: usize) -> [Record; MOST_AGENTS]
+    ensures { λ r. ⌜ r ≡ take count records ++ replicate (mostAgents - count) blank ⌝ }
 {
     let mut out = records;
     let mut index = count;
-    while index < 64 {
+    while index < MOST_AGENTS {
         out[index] = Record::blank();
         index += 1;
     }
     out
 }
 
-// The fleet of the first `count` records, with nothing held.
-pub(crate) fn in_tick(tick: Tick, records: [Record; 64], count: usize) -> Fleet
-    ensures { λ r. ⌜ r ≡ inTick tick (take count records) ⌝ }
+// The first `count` records.
+fn standing_of(records: [Record; MOST_AGENTS], count: usize) -> Standing
+    ensures { λ r. ⌜ r ≡ standingOf (take count records) ⌝ }
 {
     let kept = blanked(records, count);
+    Standing {
+        count: in_range(count),
+        records: kept,
+    }
+}
+
+// The fleet of the first `count` records, with nothing held.
+pub(crate) fn holding_nothing(tick: Tick, records: [Record; MOST_AGENTS], count: usize) -> Fleet
+    ensures { λ r. ⌜ r ≡ holdingNothing tick (take count records) ⌝ }
+{
+    let standing = standing_of(records, count);
     let plans = nothing_held();
     let goals = nothing_held();
     Fleet {
-        count: in_range(count),
-        records: kept,
+        standing,
         tick,
         plans,
         goals,
@@ -80,17 +100,17 @@ pub(crate) fn refused(fleet: Fleet, refusal: Refusal) -> Called
 }
 
 // The records without the one at `index`: later ones move down by one.
-fn without(records: [Record; 64], index: usize) -> [Record; 64]
-    requires { ⌜ index < 64 ⌝ }
+fn without(records: [Record; MOST_AGENTS], index: usize) -> [Record; MOST_AGENTS]
+    requires { ⌜ index < mostAgents ⌝ }
     ensures { λ r. ⌜ r ≡ take index records ++ drop (suc index) records ++ blank ∷ [] ⌝ }
 {
     let mut out = records;
     let mut at = index;
-    while at < 63 {
+    while at < LAST {
         out[at] = records[at + 1];
         at += 1;
     }
-    out[63] = Record::blank();
+    out[LAST] = Record::blank();
     out
 }
 
@@ -101,10 +121,10 @@ fn add_verdict(tick: Tick, count: usize, stored: Record) -> Verdict
     let Tick::Shut = tick else {
         return Verdict::Refused(Refusal::TickOpen);
     };
-    if 64 <= count {
-        return Verdict::Refused(Refusal::Full);
+    if MOST_AGENTS <= count {
+        return Verdict::Refused(Refusal::Full { most: MOST_AGENTS });
     }
-    record_verdict(0, stored)
+    stored.verdict()
 }
 
 fn put_verdict(tick: Tick, count: usize, index: usize, stored: Record) -> Verdict
@@ -116,7 +136,7 @@ fn put_verdict(tick: Tick, count: usize, index: usize, stored: Record) -> Verdic
     if count <= index {
         return Verdict::Refused(Refusal::NoAgent { index });
     }
-    record_verdict(0, stored)
+    stored.verdict()
 }
 
 fn remove_verdict(tick: Tick, count: usize, index: usize) -> Verdict
@@ -132,7 +152,7 @@ fn remove_verdict(tick: Tick, count: usize, index: usize) -> Verdict
 }
 
 fn read_answer(count: usize, index: usize) -> Answer
-    ensures { λ r. ⌜ r ≡ answerTo (agentAmong count index) ⌝ }
+    ensures { λ r. ⌜ r ≡ answerTo (indexAmong count index) ⌝ }
 {
     if index < count {
         Answer::Done
@@ -141,52 +161,43 @@ fn read_answer(count: usize, index: usize) -> Answer
     }
 }
 
-// The words of the record at `index` of the first `count`, and zeros where there is none.
-fn words_at(records: [Record; 64], count: usize, index: usize) -> [u32; 19]
-    requires { ⌜ count ≤ 64 ⌝ }
-    ensures { λ r. ⌜ r ≡ getD (take count records) index blank .words ⌝ }
-{
-    if count <= index {
-        return [0; 19];
-    }
-    let stored = records[index];
-    stored.words
-}
-
 impl Fleet {
     // A fleet with no agents.
     pub fn empty() -> Fleet
         ensures { λ r. ⌜ r ≡ fleetOf [] ⌝ }
     {
         let records = [Record::blank(); 64];
-        in_tick(Tick::Shut, records, 0)
+        holding_nothing(Tick::Shut, records, 0)
     }
 
     // How many agents there are.
     pub fn agent_count(self) -> usize
         ensures count { λ r. ⌜ r ≡ length (agents self) ⌝ }
-        ensures within { λ r. ⌜ r ≤ 64 ⌝ }
+        ensures within { λ r. ⌜ r ≤ mostAgents ⌝ }
     {
-        in_range(self.count)
+        in_range(self.standing.count)
     }
 
-    // The standing record of the agent at `index`.
-    pub(crate) fn standing(self, index: usize) -> Record
-        requires { ⌜ index < length (agents self) ⌝ }
+    // The standing record of the agent at `index`, or a blank one where there is none.
+    pub(crate) fn record_at(self, index: usize) -> Record
         ensures { λ r. ⌜ r ≡ getD (agents self) index blank ⌝ }
     {
-        self.records[index]
+        if self.agent_count() <= index {
+            return Record::blank();
+        }
+        let records = self.standing.records;
+        records[index]
     }
 
     // The fleet outside a tick, with one agent more.
     fn added(self, stored: Record) -> Fleet
-        requires { ⌜ length (agents self) < 64 ⌝ }
+        requires { ⌜ length (agents self) < mostAgents ⌝ }
         ensures { λ r. ⌜ r ≡ added self stored ⌝ }
     {
-        let count = self.count;
-        let mut records = self.records;
+        let count = self.standing.count;
+        let mut records = self.standing.records;
         records[count] = stored;
-        in_tick(Tick::Shut, records, count + 1)
+        holding_nothing(Tick::Shut, records, count + 1)
     }
 
     // The fleet outside a tick, with another record at `index`.
@@ -194,9 +205,9 @@ impl Fleet {
         requires { ⌜ index < length (agents self) ⌝ }
         ensures { λ r. ⌜ r ≡ withRecord self index stored ⌝ }
     {
-        let mut records = self.records;
+        let mut records = self.standing.records;
         records[index] = stored;
-        in_tick(Tick::Shut, records, self.count)
+        holding_nothing(Tick::Shut, records, self.standing.count)
     }
 
     // The fleet outside a tick, without the agent at `index`.
@@ -204,33 +215,42 @@ impl Fleet {
         requires { ⌜ index < length (agents self) ⌝ }
         ensures { λ r. ⌜ r ≡ removed self index ⌝ }
     {
-        let records = self.records;
-        in_tick(
+        let records = self.standing.records;
+        holding_nothing(
             Tick::Shut,
             without(records, index),
-            in_range(self.count) - 1,
+            in_range(self.standing.count) - 1,
         )
     }
 
     // Adds an agent with these words, after the others.
-    pub fn add(self, words: [u32; 19]) -> Called
+    pub fn add(self, words: [u32; RECORD_WORDS]) -> Called
         ensures { λ r. ⌜ r ≡ addCall self words ⌝ }
     {
         let stored = Record { words };
         let tick = self.tick;
-        if let Verdict::Refused(refusal) = add_verdict(tick, in_range(self.count), stored) {
+        if let Verdict::Refused(refusal) = add_verdict(
+            tick,
+            in_range(self.standing.count),
+            stored,
+        ) {
             return refused(self, refusal);
         }
         done(self.added(stored))
     }
 
     // Sets all words of the agent at `index`.
-    pub fn put(self, index: usize, words: [u32; 19]) -> Called
+    pub fn put(self, index: usize, words: [u32; RECORD_WORDS]) -> Called
         ensures { λ r. ⌜ r ≡ putCall self index words ⌝ }
     {
         let stored = Record { words };
         let tick = self.tick;
-        if let Verdict::Refused(refusal) = put_verdict(tick, in_range(self.count), index, stored) {
+        if let Verdict::Refused(refusal) = put_verdict(
+            tick,
+            in_range(self.standing.count),
+            index,
+            stored,
+        ) {
             return refused(self, refusal);
         }
         done(self.with_record(index, stored))
@@ -241,7 +261,11 @@ impl Fleet {
         ensures { λ r. ⌜ r ≡ removeCall self index ⌝ }
     {
         let tick = self.tick;
-        if let Verdict::Refused(refusal) = remove_verdict(tick, in_range(self.count), index) {
+        if let Verdict::Refused(refusal) = remove_verdict(
+            tick,
+            in_range(self.standing.count),
+            index,
+        ) {
             return refused(self, refusal);
         }
         done(self.removed(index))
@@ -251,11 +275,11 @@ impl Fleet {
     pub fn read(self, index: usize) -> Read
         ensures { λ r. ⌜ r ≡ readCall self index ⌝ }
     {
-        let count = in_range(self.count);
-        let records = self.records;
+        let stored = self.record_at(index);
+        let words = stored.words;
         Read {
-            answer: read_answer(count, index),
-            words: words_at(records, count, index),
+            answer: read_answer(self.agent_count(), index),
+            words,
             fleet: self,
         }
     }

@@ -2,22 +2,26 @@
 ghost use mathlib.Core.Path.{_≡_};
 ghost use Prim.Native.Nat.{_≤_, _<_};
 ghost use lib.ListN.{length, take};
-ghost use Rattle.fleet.specs.Table.{agents, inTick};
-ghost use Rattle.fleet.specs.Tick.{stepVerdict, openVerdict, openCall, goalFault, goalVerdict, withGoal, withHeld, holdGoal, goalSet, goalCall, goalTaken, goalsTaken, ended, planned, firstUnplanned, arrival, arrivals, firstAstray, moved, allMoved, closeVerdict, closeOpen, closeCall, dropCall};
+ghost use Rattle.refusals.specs.Conditions.{firstBad};
+ghost use Rattle.records.specs.Record.{mostAgents};
+ghost use Rattle.fleet.specs.Table.{agents, holdingNothing};
+ghost use Rattle.fleet.specs.Tick.{stepVerdict, openVerdict, openCall, goalFault, goalVerdict, withHeld, holdGoal, goalSet, goalCall, goalTaken, goalsTaken, ended, hasPlan, unplanned, arrival, arrivals, astray, movedBy, allMoved, closeVerdict, closeOpen, closeCall, dropCall};
 use super::Called;
 use super::Fleet;
 use super::Held;
-use super::Record;
-use super::Refusal;
 use super::Rule;
 use super::Slot;
 use super::Tick;
-use super::Verdict;
 use super::table::done;
-use super::table::in_tick;
+use super::table::holding_nothing;
 use super::table::refused;
-use avoidance::checks::Found;
-use avoidance::velocity::is_finite_vector;
+use avoidance::TIME_STEP_PLACE;
+use records::GOAL_WORD;
+use records::MOST_AGENTS;
+use records::Record;
+use refusals::Found;
+use refusals::Refusal;
+use refusals::Verdict;
 use vectors::Vec3;
 use vectors::number::is_finite;
 
@@ -26,12 +30,16 @@ fn step_verdict(time_step: f32) -> Verdict
     ensures { λ r. ⌜ r ≡ stepVerdict «time_step» ⌝ }
 {
     if !is_finite(time_step) {
-        return Verdict::Refused(Refusal::NotFinite { place: 12 });
+        return Verdict::Refused(Refusal::NotFinite {
+            place: TIME_STEP_PLACE,
+        });
     }
     if time_step > 0.0 {
         Verdict::Passed
     } else {
-        Verdict::Refused(Refusal::OutOfRange { place: 12 })
+        Verdict::Refused(Refusal::OutOfRange {
+            place: TIME_STEP_PLACE,
+        })
     }
 }
 
@@ -40,22 +48,16 @@ fn goal_fault(goal: Vec3) -> Found
     ensures { λ r. ⌜ r ≡ goalFault goal ⌝ }
 {
     if !is_finite(goal.x) {
-        return Found::At(8);
+        return Found::At(GOAL_WORD);
     }
     if !is_finite(goal.y) {
-        return Found::At(9);
+        return Found::At(GOAL_WORD + 1);
     }
     if is_finite(goal.z) {
         Found::Nothing
     } else {
-        Found::At(10)
+        Found::At(GOAL_WORD + 2)
     }
-}
-
-fn with_goal(goal: Vec3, stored: Record) -> Record
-    ensures { λ r. ⌜ r ≡ withGoal goal stored ⌝ }
-{
-    stored.with_vector(8, goal)
 }
 
 // The record with the goal that was held for it, if one was.
@@ -65,24 +67,24 @@ fn goal_taken(stored: Record, goal: Slot) -> Record
     let held = goal.held;
     match held {
         Held::Nothing => stored,
-        Held::Vector(goal) => with_goal(goal, stored),
+        Held::Vector(goal) => stored.with_goal(goal),
     }
 }
 
-fn goals_taken(records: [Record; 64], goals: [Slot; 64]) -> [Record; 64]
+fn goals_taken(records: [Record; MOST_AGENTS], goals: [Slot; MOST_AGENTS]) -> [Record; MOST_AGENTS]
     ensures { λ r. ⌜ r ≡ goalsTaken records goals ⌝ }
 {
     let mut out = records;
     let mut index = 0;
-    while index < 64 {
+    while index < MOST_AGENTS {
         out[index] = goal_taken(records[index], goals[index]);
         index += 1;
     }
     out
 }
 
-fn is_planned(plan: Slot) -> bool
-    ensures { λ r. ⌜ r ≡ planned (plan .held) ⌝ }
+fn has_plan(plan: Slot) -> bool
+    ensures { λ r. ⌜ r ≡ hasPlan (plan .held) ⌝ }
 {
     let held = plan.held;
     match held {
@@ -91,13 +93,13 @@ fn is_planned(plan: Slot) -> bool
     }
 }
 
-fn first_unplanned(plans: [Slot; 64], count: usize) -> Found
-    requires { ⌜ count ≤ 64 ⌝ }
-    ensures { λ r. ⌜ r ≡ firstUnplanned (take count plans) ⌝ }
+fn first_unplanned(plans: [Slot; MOST_AGENTS], count: usize) -> Found
+    requires { ⌜ count ≤ mostAgents ⌝ }
+    ensures { λ r. ⌜ r ≡ firstBad unplanned 0 (take count plans) ⌝ }
 {
     let mut index = 0;
     while index < count {
-        if !is_planned(plans[index]) {
+        if !has_plan(plans[index]) {
             return Found::At(index);
         }
         index += 1;
@@ -109,7 +111,7 @@ fn first_unplanned(plans: [Slot; 64], count: usize) -> Found
 fn arrival(time_step: f32, stored: Record, plan: Slot) -> Vec3
     ensures { λ r. ⌜ r ≡ arrival «time_step» stored (plan .held) ⌝ }
 {
-    let position = stored.vector(0);
+    let position = stored.position();
     let held = plan.held;
     match held {
         Held::Nothing => position,
@@ -118,13 +120,18 @@ fn arrival(time_step: f32, stored: Record, plan: Slot) -> Vec3
 }
 
 // The first agent whose plan takes it to a position that is not finite.
-fn first_astray(time_step: f32, records: [Record; 64], plans: [Slot; 64], count: usize) -> Found
-    requires { ⌜ count ≤ 64 ⌝ }
-    ensures { λ r. ⌜ r ≡ firstAstray (arrivals «time_step» (take count records) plans) ⌝ }
+fn first_astray(
+    time_step: f32,
+    records: [Record; MOST_AGENTS],
+    plans: [Slot; MOST_AGENTS],
+    count: usize,
+) -> Found
+    requires { ⌜ count ≤ mostAgents ⌝ }
+    ensures { λ r. ⌜ r ≡ firstBad astray 0 (arrivals «time_step» (take count records) plans) ⌝ }
 {
     let mut index = 0;
     while index < count {
-        if !is_finite_vector(arrival(time_step, records[index], plans[index])) {
+        if !arrival(time_step, records[index], plans[index]).is_finite() {
             return Found::At(index);
         }
         index += 1;
@@ -133,26 +140,30 @@ fn first_astray(time_step: f32, records: [Record; 64], plans: [Slot; 64], count:
 }
 
 // The record with the velocity planned for it, at the position to which that takes it.
-fn moved(time_step: f32, stored: Record, plan: Slot) -> Record
-    ensures { λ r. ⌜ r ≡ moved «time_step» stored (plan .held) ⌝ }
+fn moved_by(time_step: f32, stored: Record, plan: Slot) -> Record
+    ensures { λ r. ⌜ r ≡ movedBy «time_step» stored (plan .held) ⌝ }
 {
     let held = plan.held;
     match held {
         Held::Nothing => stored,
         Held::Vector(velocity) => {
             let position = arrival(time_step, stored, plan);
-            stored.with_vector(3, velocity).with_vector(0, position)
+            stored.moved_to(position, velocity)
         }
     }
 }
 
-fn all_moved(time_step: f32, records: [Record; 64], plans: [Slot; 64]) -> [Record; 64]
+fn all_moved(
+    time_step: f32,
+    records: [Record; MOST_AGENTS],
+    plans: [Slot; MOST_AGENTS],
+) -> [Record; MOST_AGENTS]
     ensures { λ r. ⌜ r ≡ allMoved «time_step» records plans ⌝ }
 {
     let mut out = records;
     let mut index = 0;
-    while index < 64 {
-        out[index] = moved(time_step, records[index], plans[index]);
+    while index < MOST_AGENTS {
+        out[index] = moved_by(time_step, records[index], plans[index]);
         index += 1;
     }
     out
@@ -182,8 +193,13 @@ fn goal_verdict(count: usize, index: usize, goal: Vec3) -> Verdict
 }
 
 // 12 before 13.
-fn close_verdict(time_step: f32, records: [Record; 64], plans: [Slot; 64], count: usize) -> Verdict
-    requires { ⌜ count ≤ 64 ⌝ }
+fn close_verdict(
+    time_step: f32,
+    records: [Record; MOST_AGENTS],
+    plans: [Slot; MOST_AGENTS],
+    count: usize,
+) -> Verdict
+    requires { ⌜ count ≤ mostAgents ⌝ }
     ensures { λ r. ⌜ r ≡ closeVerdict «time_step» (take count records) plans ⌝ }
 {
     if let Found::At(agent) = first_unplanned(plans, count) {
@@ -196,8 +212,12 @@ fn close_verdict(time_step: f32, records: [Record; 64], plans: [Slot; 64], count
 }
 
 // In place of what was held for the agent before.
-pub(crate) fn with_held(mut slots: [Slot; 64], index: usize, v: Vec3) -> [Slot; 64]
-    requires { ⌜ index < 64 ⌝ }
+pub(crate) fn with_held(
+    mut slots: [Slot; MOST_AGENTS],
+    index: usize,
+    v: Vec3,
+) -> [Slot; MOST_AGENTS]
+    requires { ⌜ index < mostAgents ⌝ }
     ensures { λ r. ⌜ r ≡ withHeld slots index v ⌝ }
 {
     slots[index] = Slot {
@@ -208,7 +228,7 @@ pub(crate) fn with_held(mut slots: [Slot; 64], index: usize, v: Vec3) -> [Slot; 
 
 // In a tick the goal is held.
 fn hold_goal(mut fleet: Fleet, index: usize, goal: Vec3) -> Fleet
-    requires { ⌜ index < 64 ⌝ }
+    requires { ⌜ index < mostAgents ⌝ }
     ensures { λ r. ⌜ r ≡ holdGoal fleet index goal ⌝ }
 {
     let goals = fleet.goals;
@@ -226,30 +246,38 @@ fn goal_set(fleet: Fleet, index: usize, goal: Vec3) -> Fleet
     let Tick::Shut = tick else {
         return hold_goal(fleet, index, goal);
     };
-    fleet.with_record(index, with_goal(goal, fleet.standing(index)))
+    fleet.with_record(index, fleet.record_at(index).with_goal(goal))
 }
 
 // The fleet in a new tick.
 fn with_tick(fleet: Fleet, time_step: f32, rule: Rule) -> Fleet
-    ensures { λ r. ⌜ r ≡ inTick (Tick.Open «time_step» rule) (agents fleet) ⌝ }
+    ensures { λ r. ⌜ r ≡ holdingNothing (Tick.Open «time_step» rule) (agents fleet) ⌝ }
 {
-    let records = fleet.records;
-    in_tick(Tick::Open { time_step, rule }, records, fleet.count)
+    let records = fleet.standing.records;
+    holding_nothing(
+        Tick::Open { time_step, rule },
+        records,
+        fleet.standing.count,
+    )
 }
 
 // The fleet after a tick that leaves it with these records: held goals take effect.
-fn ended(fleet: Fleet, records: [Record; 64]) -> Fleet
-    ensures { λ r. ⌜ r ≡ ended (take (fleet .count) records) (fleet .goals) ⌝ }
+fn ended(fleet: Fleet, records: [Record; MOST_AGENTS]) -> Fleet
+    ensures { λ r. ⌜ r ≡ ended (take (fleet .standing .count) records) (fleet .goals) ⌝ }
 {
     let goals = fleet.goals;
-    in_tick(Tick::Shut, goals_taken(records, goals), fleet.count)
+    holding_nothing(
+        Tick::Shut,
+        goals_taken(records, goals),
+        fleet.standing.count,
+    )
 }
 
 // Close, where a tick of `time_step` is open.
 fn close_open(fleet: Fleet, time_step: f32) -> Called
     ensures { λ r. ⌜ r ≡ closeOpen «time_step» fleet ⌝ }
 {
-    let records = fleet.records;
+    let records = fleet.standing.records;
     let plans = fleet.plans;
     if let Verdict::Refused(refusal) = close_verdict(
         time_step,
@@ -307,7 +335,7 @@ impl Fleet {
         else {
             return refused(self, Refusal::NoTick);
         };
-        let records = self.records;
+        let records = self.standing.records;
         done(ended(self, records))
     }
 }

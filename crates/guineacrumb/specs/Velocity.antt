@@ -6,10 +6,12 @@ use lib.Dec.{eqb}
 use lib.ListN.{length}
 use lib.Ieee.{Float}
 use Rattle.vectors.specs.declared.Vec3.{Vec3}
-use Rattle.avoidance.specs.declared.velocity.Reply.{Reply}
-use Rattle.avoidance.specs.declared.velocity.Reply.the-variants.{Free, Relaxed, BadNeighbours, ShortScratch, NotFinite, OutOfRange, BadFallback, PlaneNotFinite, NoVelocity}
-use Rattle.avoidance.specs.Checks.{requestAt}
-use Rattle.avoidance.specs.Velocity.{velocityCall, scratchAfter, number, placeOf, velocityOf}
+use Rattle.refusals.specs.declared.Found.{Found}
+use Rattle.refusals.specs.declared.Found.the-variants.{At, Nothing}
+use Rattle.avoidance.specs.declared.Reply.{Reply}
+use Rattle.avoidance.specs.Request.{perRequest, requestAt}
+use Rattle.avoidance.specs.Reply.{number, placeOf, velocityOf, relaxedOf}
+use Rattle.avoidance.specs.Velocity.{velocityCall, scratchAfter}
 
 -- ---- lengths
 
@@ -19,7 +21,7 @@ badLengths = 255
 
 -- a request is the 17 numbers of places 0 to 16, and a velocity 3
 unfoldable pub fits : List Float → List Float → Bool
-fits request velocity = eqb (length request) 17 && eqb (length velocity) 3
+fits request velocity = eqb (length request) perRequest && eqb (length velocity) 3
 
 -- ---- numbers out
 
@@ -30,17 +32,13 @@ componentsOf v = v .x ∷ v .y ∷ v .z ∷ []
 abbrev pub noPlane : ℕ
 noPlane = 0xFFFF_FFFF_FFFF_FFFF
 
+unfoldable pub planeOr : Found → ℕ
+planeOr (At plane) = plane
+planeOr Nothing = noPlane
+
 -- the plane from which an answer is relaxed
-unfoldable pub relaxedFrom : Reply → ℕ
-relaxedFrom (Free v) = noPlane
-relaxedFrom (Relaxed v k) = k
-relaxedFrom BadNeighbours = noPlane
-relaxedFrom (ShortScratch needed) = noPlane
-relaxedFrom (NotFinite place) = noPlane
-relaxedFrom (OutOfRange place) = noPlane
-relaxedFrom BadFallback = noPlane
-relaxedFrom (PlaneNotFinite neighbour) = noPlane
-relaxedFrom NoVelocity = noPlane
+abbrev pub relaxedFrom : Reply → ℕ
+relaxedFrom reply = planeOr (relaxedOf reply)
 
 -- ---- the answer, and what is left in what was lent: as it was where the lengths do not fit
 

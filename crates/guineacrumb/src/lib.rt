@@ -4,13 +4,17 @@ ghost use mathlib.Core.Path.{_≡_};
 ghost use lib.ListN.{length};
 ghost use Rattle.vectors.specs.Root.{root};
 ghost use Rattle.guineacrumb.specs.Velocity.{componentsOf, relaxedFrom, answer, scratchLeft, velocityLeft, placeLeft, relaxedLeft};
-use avoidance::checks::ReadRequest;
-use avoidance::checks::Request;
-use avoidance::velocity::Reply;
+use avoidance::ReadRequest;
+use avoidance::Reply;
+use avoidance::Request;
+use refusals::Found;
 use vectors::Vec3;
 
 // The answer to lengths that do not fit.
 const BAD_LENGTHS: u32 = 255;
+
+// The numbers of a velocity.
+const VELOCITY_NUMBERS: usize = 3;
 
 // What stands for no plane.
 const NO_PLANE: u64 = 0xFFFF_FFFF_FFFF_FFFF;
@@ -27,9 +31,9 @@ pub extern "C" fn guineacrumb_root(x: f32) -> f32
 fn relaxed_from(reply: Reply) -> u64
     ensures { λ r. ⌜ r ≡ relaxedFrom reply ⌝ }
 {
-    match reply {
-        Reply::Relaxed { velocity: _, plane } => plane as u64,
-        _ => NO_PLANE,
+    match reply.relaxed() {
+        Found::At(plane) => plane as u64,
+        Found::Nothing => NO_PLANE,
     }
 }
 
@@ -59,7 +63,7 @@ pub extern "C" fn guineacrumb_velocity(
     ensures place { λ _. ⌜ now (place .exit) ≡ placeLeft (now (request .entry)) (now (neighbours .entry)) (now (scratch .entry)) (now (velocity .entry)) (now (place .entry)) ⌝ }
     ensures relaxed { λ _. ⌜ now (relaxed .exit) ≡ relaxedLeft (now (request .entry)) (now (neighbours .entry)) (now (scratch .entry)) (now (velocity .entry)) (now (relaxed .entry)) ⌝ }
 {
-    if velocity.len() != 3 {
+    if velocity.len() != VELOCITY_NUMBERS {
         return BAD_LENGTHS;
     }
     let ReadRequest::Is(asked) = Request::read(request) else {

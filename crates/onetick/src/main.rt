@@ -6,13 +6,14 @@
 //
 // The line `file NAME` stands before what comes of a file that is named. A file that can't be read is said on
 // standard error, and the next one goes on.
+use avoidance::FULL_SCRATCH;
 use fleet::Answer;
 use fleet::Called;
 use fleet::Fleet;
-use fleet::Refusal;
 use fleet::Rule;
 use libc::STDIN_FILENO;
 use libc::STDOUT_FILENO;
+use refusals::Refusal;
 
 // What one more read of an input finds.
 enum More {
@@ -88,8 +89,7 @@ fn planned(last: Called, index: usize, scratch: &mut [f32]) -> Called {
 }
 
 fn all_planned(opened: Called) -> Called {
-    // 12 numbers for each of 63 neighbours
-    let mut scratch = [0.0f32; 756];
+    let mut scratch = [0.0f32; FULL_SCRATCH];
     let fleet = opened.fleet;
     let count = fleet.agent_count();
     let mut last = opened;

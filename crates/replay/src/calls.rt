@@ -6,8 +6,26 @@ use fleet::Answer;
 use fleet::Called;
 use fleet::Fleet;
 use fleet::Rule;
+use records::RECORD_WORDS;
 use vectors::Vec3;
 use vectors::number::from_word;
+
+// The words of a call: its kind, the index, the length of scratch, and as many arguments as a record has words. A rule
+// is the second argument.
+pub(crate) const CALL_WORDS: usize = 22;
+
+const KIND_WORD: usize = 0;
+
+const INDEX_WORD: usize = 1;
+
+const SCRATCH_WORD: usize = 2;
+
+const ARGUMENTS: usize = 3;
+
+const RULE_WORD: usize = 4;
+
+// No call may lend more scratch.
+const MOST_SCRATCH: usize = 1024;
 
 // In the order of their numbers, from 1 on.
 pub enum Call {
@@ -58,29 +76,29 @@ fn of_kind(kind: u32, rule: u32) -> Form {
     }
 }
 
-pub(crate) fn form_of(words: [u32; 22]) -> Form {
-    if 1024 < words[2] {
+pub(crate) fn form_of(words: [u32; CALL_WORDS]) -> Form {
+    if MOST_SCRATCH < words[SCRATCH_WORD] as usize {
         return Form::Unknown;
     }
-    of_kind(words[0], words[4])
+    of_kind(words[KIND_WORD], words[RULE_WORD])
 }
 
-// The 19 arguments.
-fn arguments(words: [u32; 22]) -> [u32; 19] {
-    let mut out = [0; 19];
+// The arguments, as many as a record has words.
+fn arguments(words: [u32; CALL_WORDS]) -> [u32; RECORD_WORDS] {
+    let mut out = [0; RECORD_WORDS];
     let mut place = 0;
-    while place < 19 {
-        out[place] = words[3 + place];
+    while place < RECORD_WORDS {
+        out[place] = words[ARGUMENTS + place];
         place += 1;
     }
     out
 }
 
-fn goal(words: [u32; 22]) -> Vec3 {
+fn goal(words: [u32; CALL_WORDS]) -> Vec3 {
     Vec3 {
-        x: from_word(words[3]),
-        y: from_word(words[4]),
-        z: from_word(words[5]),
+        x: from_word(words[ARGUMENTS]),
+        y: from_word(words[ARGUMENTS + 1]),
+        z: from_word(words[ARGUMENTS + 2]),
     }
 }
 
@@ -90,23 +108,23 @@ fn at_most(most: usize, length: usize) -> usize
     if length <= most { length } else { most }
 }
 
-// A plan on a scratch of that length; `form_of` lets none pass that is over 1,024.
+// A plan on a scratch of that length; `form_of` lets none pass that is over that.
 fn plan(fleet: Fleet, index: usize, length: usize) -> Called {
-    let mut scratch = [0.0f32; 1024];
-    let lent = at_most(1024, length);
+    let mut scratch = [0.0f32; MOST_SCRATCH];
+    let lent = at_most(MOST_SCRATCH, length);
     fleet.plan(index, &mut scratch[0..lent])
 }
 
 // Any call but read, which hands back words and no new fleet.
-fn called(fleet: Fleet, call: Call, words: [u32; 22]) -> Called {
-    let index = words[1] as usize;
+fn called(fleet: Fleet, call: Call, words: [u32; CALL_WORDS]) -> Called {
+    let index = words[INDEX_WORD] as usize;
     match call {
         Call::Add => fleet.add(arguments(words)),
         Call::Put => fleet.put(index, arguments(words)),
         Call::Remove => fleet.remove(index),
         Call::Goal => fleet.goal(index, goal(words)),
-        Call::Open(rule) => fleet.open(from_word(words[3]), rule),
-        Call::Plan => plan(fleet, index, words[2] as usize),
+        Call::Open(rule) => fleet.open(from_word(words[ARGUMENTS]), rule),
+        Call::Plan => plan(fleet, index, words[SCRATCH_WORD] as usize),
         Call::Close => fleet.close(),
         Call::Drop => fleet.drop(),
         Call::Read => Called {
@@ -128,9 +146,9 @@ fn say_standing(fleet: Fleet, index: usize) {
 }
 
 // Makes the call and says what it answers. The fleet after it.
-pub(crate) fn make(fleet: Fleet, call: Call, words: [u32; 22]) -> Fleet {
+pub(crate) fn make(fleet: Fleet, call: Call, words: [u32; CALL_WORDS]) -> Fleet {
     if let Call::Read = call {
-        say_standing(fleet, words[1] as usize);
+        say_standing(fleet, words[INDEX_WORD] as usize);
         return fleet;
     }
     said(called(fleet, call, words))

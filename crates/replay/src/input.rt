@@ -2,8 +2,12 @@
 ghost use Prim.Native.Nat.{_+_, _*_, _≤_};
 ghost use mathlib.Core.Path.{_≡_};
 use super::calls;
+use super::calls::CALL_WORDS;
 use super::calls::Call;
 use super::calls::Form;
+
+// The bytes of a call.
+pub(crate) const CALL_BYTES: usize = 88;
 
 // The fleet file's length in bytes.
 pub enum Length {
@@ -12,7 +16,7 @@ pub enum Length {
 }
 
 // What stands after the calls that were read.
-pub enum Found {
+pub enum Item {
     Call(Call),
     End,
     Unreadable,
@@ -20,8 +24,8 @@ pub enum Found {
 
 // The same, with the words of a call.
 pub struct Next {
-    pub found: Found,
-    pub words: [u32; 22],
+    pub item: Item,
+    pub words: [u32; CALL_WORDS],
 }
 
 fn wide(byte: u8) -> u32
@@ -94,19 +98,19 @@ fn is_at_end(input: i32) -> bool {
 }
 
 // What was found where fewer bytes were left than a call has.
-fn after_part(input: i32, got: usize) -> Found {
+fn after_part(input: i32, got: usize) -> Item {
     if got == 0 {
         if is_at_end(input) {
-            return Found::End;
+            return Item::End;
         }
     }
-    Found::Unreadable
+    Item::Unreadable
 }
 
-fn words_of(bytes: &[u8; 88]) -> [u32; 22] {
-    let mut words = [0; 22];
+fn words_of(bytes: &[u8; CALL_BYTES]) -> [u32; CALL_WORDS] {
+    let mut words = [0; CALL_WORDS];
     let mut place = 0;
-    while place < 22 {
+    while place < CALL_WORDS {
         let at = 4 * place;
         words[place] = word(bytes[at], bytes[at + 1], bytes[at + 2], bytes[at + 3]);
         place += 1;
@@ -114,25 +118,25 @@ fn words_of(bytes: &[u8; 88]) -> [u32; 22] {
     words
 }
 
-fn found_in(words: [u32; 22]) -> Found {
+fn item_in(words: [u32; CALL_WORDS]) -> Item {
     match calls::form_of(words) {
-        Form::Call(call) => Found::Call(call),
-        Form::Unknown => Found::Unreadable,
+        Form::Call(call) => Item::Call(call),
+        Form::Unknown => Item::Unreadable,
     }
 }
 
 pub(crate) fn read_next(input: i32) -> Next {
-    let mut bytes = [0u8; 88];
+    let mut bytes = [0u8; CALL_BYTES];
     let got = io::read_full(input, &mut bytes);
-    if got < 88 {
+    if got < CALL_BYTES {
         return Next {
-            found: after_part(input, got),
-            words: [0; 22],
+            item: after_part(input, got),
+            words: [0; CALL_WORDS],
         };
     }
     let words = words_of(&bytes);
     Next {
-        found: found_in(words),
+        item: item_in(words),
         words,
     }
 }

@@ -18,13 +18,14 @@ mod report;
 use fleet::Answer;
 use fleet::Called;
 use fleet::Fleet;
-use fleet::Refusal;
-use input::Found;
+use input::CALL_BYTES;
+use input::Item;
 use input::Length;
 use libc::STDIN_FILENO;
+use refusals::Refusal;
 
 // The last byte at which a call can start and its end still be counted.
-const LAST_START: usize = usize::MAX - 88;
+const LAST_START: usize = usize::MAX - CALL_BYTES;
 
 // What load hands back for a file of a length that it refuses, on an empty table.
 fn too_long(length: usize) -> Called {
@@ -49,21 +50,21 @@ fn make_calls(input: i32, fleet: Fleet, start: usize) -> Fleet {
     let mut at = start;
     while at <= LAST_START {
         let next = input::read_next(input);
-        let found = next.found;
+        let item = next.item;
         let words = next.words;
-        match found {
-            Found::Call(call) => {
+        match item {
+            Item::Call(call) => {
                 fleet = calls::make(fleet, call, words);
             }
-            Found::End => {
+            Item::End => {
                 return fleet;
             }
-            Found::Unreadable => {
+            Item::Unreadable => {
                 report::say_unreadable(at);
                 return fleet;
             }
         }
-        at += 88;
+        at += CALL_BYTES;
     }
     fleet
 }

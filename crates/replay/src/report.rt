@@ -1,11 +1,14 @@
 // The lines that are printed. Words and numbers of a velocity are 8 lower-case hex digits of their bits; a
 // refusal's number and place, the plane from which a velocity is relaxed and a byte of the input are decimal.
 ghost use Prim.Native.Nat.{_+_, _≤_};
-use avoidance::velocity::Reply;
+use avoidance::Course;
+use avoidance::Reply;
 use fleet::Answer;
 use fleet::Fleet;
 use fleet::Read;
 use libc::STDOUT_FILENO;
+use records::RECORD_WORDS;
+use refusals::Found;
 use vectors::Vec3;
 use vectors::number::to_word;
 
@@ -54,19 +57,23 @@ fn say_velocity(velocity: Vec3) {
 }
 
 // `velocity X Y Z free` or `velocity X Y Z relaxed K`
-fn say_reply(reply: Reply) {
-    match reply {
-        Reply::Free(velocity) => {
-            say_velocity(velocity);
-            say(b" free\n");
-        }
-        Reply::Relaxed { velocity, plane } => {
-            say_velocity(velocity);
+fn say_course(course: Course) {
+    say_velocity(course.velocity);
+    let relaxed = course.relaxed;
+    match relaxed {
+        Found::Nothing => say(b" free\n"),
+        Found::At(plane) => {
             say(b" relaxed ");
             say_number(plane);
             say(b"\n");
         }
-        _ => say_refused(reply.number(), reply.place()),
+    }
+}
+
+fn say_reply(reply: Reply) {
+    match reply {
+        Reply::Answered(course) => say_course(course),
+        Reply::Refused(refusal) => say_refused(refusal.number(), refusal.place()),
     }
 }
 
@@ -97,10 +104,10 @@ fn say_line(line: &[u8; 171]) {
 }
 
 // One write for the whole line: there may be very many.
-fn say_words(words: [u32; 19]) {
+fn say_words(words: [u32; RECORD_WORDS]) {
     let mut line = [0u8; 171];
     let mut place = 0;
-    while place < 19 {
+    while place < RECORD_WORDS {
         put_word(&mut line, 9 * place, words[place]);
         place += 1;
     }

@@ -10,8 +10,9 @@ use lib.Dec.{T, leb, leb→le, nleb→lt}
 use lib.ListN.{length, getD, take, drop}
 use lib.Seq.{getD-take, drop-drop, take-nil, length-take-le}
 use lib.Ieee.{Float, nan}
-use Rattle.solver.specs.declared.plane.Plane.{Plane}
-use Rattle.solver.specs.Plane.{planeAt, planesOf, planesIn, inTurn}
+use Rattle.solver.specs.declared.Plane.{Plane}
+use Rattle.solver.specs.Plane.{inTurn}
+use Rattle.solver.specs.Lent.{planeAt, planesOf, planesIn}
 
 -- of the first n planes, those from index i on
 abbrev pub rest : ℕ → ℕ → List Float → List Plane

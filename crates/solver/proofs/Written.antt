@@ -9,8 +9,8 @@ use borrow.Author.Tests.{lt-ltb}
 use lib.ListN.{length, take, drop, set, replicate, length-set}
 use lib.Seq.{take-set-le, drop-set-lt, drop-at, length-take-le, sets, sets-eq}
 use lib.Ieee.{Float}
-use Rattle.solver.specs.declared.plane.Plane.{Plane}
-use Rattle.solver.specs.Plane.{planeAt, numbersOfPlane, withPlane}
+use Rattle.solver.specs.declared.Plane.{Plane}
+use Rattle.solver.specs.Lent.{planeAt, numbersOfPlane, withPlane}
 
 -- ---- a plane
 

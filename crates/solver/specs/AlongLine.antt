@@ -8,12 +8,12 @@ use Rattle.vectors.specs.declared.Vec3.{Vec3}
 use Rattle.vectors.specs.Number.{_⊕_, _⊖_, _⊗_, _⊘_, _<ᶠ_, _≤ᶠ_, _>ᶠ_, _≥ᶠ_, zero, rvoEpsilon, larger, smaller, clamped}
 use Rattle.vectors.specs.Root.{root}
 use Rattle.vectors.specs.Vec3.{_+ᵥ_, _-ᵥ_, _*ᵥ_, dot}
-use Rattle.solver.specs.declared.plane.Plane.{Plane}
-use Rattle.solver.specs.declared.plane.Line.{Line}
-use Rattle.solver.specs.declared.plane.Optimum.{Optimum}
-use Rattle.solver.specs.declared.plane.Optimum.the-variants.{Point, Direction}
-use Rattle.solver.specs.declared.plane.Answer.{Answer}
-use Rattle.solver.specs.declared.plane.Answer.the-variants.{Value, Infeasible, BadClamp}
+use Rattle.solver.specs.declared.Plane.{Plane}
+use Rattle.solver.specs.declared.Line.{Line}
+use Rattle.solver.specs.declared.Optimum.{Optimum}
+use Rattle.solver.specs.declared.Optimum.the-variants.{Point, Direction}
+use Rattle.solver.specs.declared.OnLine.{OnLine}
+use Rattle.solver.specs.declared.OnLine.the-variants.{Value, Infeasible, BadClamp}
 use Rattle.solver.specs.declared.along_line.Cut.{Cut}
 use Rattle.solver.specs.declared.along_line.Cut.the-variants.{Open, Shut}
 use Rattle.solver.specs.Plane.{signedDistance, inTurn}
@@ -41,18 +41,18 @@ unfoldable pub pointOn : Line → Float → Vec3
 pointOn line t = line .point +ᵥ line .direction *ᵥ t
 
 -- with a point as the optimum the time is clamped; a bad pair of bounds is an answer of its own
-unfoldable pub atClamped : Line → Clamped → Answer
+unfoldable pub atClamped : Line → Clamped → OnLine
 atClamped line (clamp.Value t) = Value (pointOn line t)
 atClamped line clamp.BadBounds = BadClamp
 
-unfoldable pub bestOn : Line → Optimum → Cut → Answer
+unfoldable pub bestOn : Line → Optimum → Cut → OnLine
 bestOn line optimum Shut = Infeasible
 bestOn line (Direction x y z) (Open left right) =
     Value (pointOn line (cond (dot (record { x = x; y = y; z = z }) (line .direction) >ᶠ zero) right left))
 bestOn line (Point x y z) (Open left right) =
     atClamped line (clamped (dot (line .direction) (record { x = x; y = y; z = z } -ᵥ line .point)) left right)
 
-unfoldable pub alongLine : Line → Float → List Plane → Optimum → Answer
+unfoldable pub alongLine : Line → Float → List Plane → Optimum → OnLine
 alongLine line radius constraints optimum =
     let lineDot = dot (line .point) (line .direction) in
     let discriminant = lineDot ⊗ lineDot ⊕ radius ⊗ radius ⊖ dot (line .point) (line .point) in

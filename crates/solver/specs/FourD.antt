@@ -7,15 +7,16 @@ use lib.Ieee.{Float, neg}
 use Rattle.vectors.specs.declared.Vec3.{Vec3}
 use Rattle.vectors.specs.Number.{_⊘_, _≤ᶠ_, _>ᶠ_, zero, ofWord, rvoEpsilon}
 use Rattle.vectors.specs.Vec3.{_+ᵥ_, _-ᵥ_, _*ᵥ_, dot, cross, normalize}
-use Rattle.solver.specs.declared.plane.Plane.{Plane}
-use Rattle.solver.specs.declared.plane.Optimum.the-variants.{Direction}
-use Rattle.solver.specs.declared.three_d.Failure.{Failure}
-use Rattle.solver.specs.declared.three_d.Outcome.{Outcome}
-use Rattle.solver.specs.declared.three_d.Outcome.the-variants.{Feasible, Infeasible, BadClamp}
+use Rattle.solver.specs.declared.Plane.{Plane}
+use Rattle.solver.specs.declared.Optimum.the-variants.{Direction}
+use Rattle.solver.specs.declared.Failure.{Failure}
+use Rattle.solver.specs.declared.Outcome.{Outcome}
+use Rattle.solver.specs.declared.Outcome.the-variants.{Feasible, Infeasible, BadClamp}
 use Rattle.solver.specs.declared.four_d.Turned.{Turned}
 use Rattle.solver.specs.declared.four_d.Turned.the-variants.{Kept, LeftOut}
 use Rattle.solver.specs.declared.four_d.Relaxed.{Relaxed}
 use Rattle.solver.specs.Plane.{signedDistance, inTurn}
+use Rattle.solver.specs.Lent.{perPlane, scratchPerPlane, scratchFor}
 use Rattle.solver.specs.ThreeD.{threeD}
 
 abbrev pub half : Float
@@ -58,6 +59,6 @@ unfoldable pub fourD : List Plane → Float → Failure → Vec3
 fourD constraints radius failure =
     inTurn (relaxBy radius) (take (failure .index) constraints) (drop (failure .index) constraints) (record { value = failure .value; penetration = zero }) .value
 
--- What it leaves of its scratch, whose first 6 numbers of every 12 are the planes: those, and +0 for each of the others. A rest of fewer than 12 is not touched.
+-- What it leaves of its scratch, of which the planes take the first half: those, and +0 for each number of the second. A rest of fewer than scratchPerPlane numbers is not touched.
 unfoldable pub halfCleared : List Float → List Float
-halfCleared xs = let n = length xs / 12 in take (6 * n) xs ++ replicate (6 * n) zero ++ drop (12 * n) xs
+halfCleared xs = let n = length xs / scratchPerPlane in take (perPlane * n) xs ++ replicate (perPlane * n) zero ++ drop (scratchFor n) xs

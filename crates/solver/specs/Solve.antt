@@ -3,11 +3,11 @@ use mathlib.Core.List.{List}
 use lib.Ieee.{Float}
 use Rattle.vectors.specs.declared.Vec3.{Vec3}
 use Rattle.vectors.specs.Vec3.{zeroVec}
-use Rattle.solver.specs.declared.plane.Plane.{Plane}
-use Rattle.solver.specs.declared.plane.Optimum.the-variants.{Point}
-use Rattle.solver.specs.declared.three_d.Outcome.{Outcome}
-use Rattle.solver.specs.declared.three_d.Outcome.the-variants.{Feasible, Infeasible, BadClamp}
-use Rattle.solver.specs.declared.solve.Solution.{Solution}
+use Rattle.solver.specs.declared.Plane.{Plane}
+use Rattle.solver.specs.declared.Optimum.the-variants.{Point}
+use Rattle.solver.specs.declared.Outcome.{Outcome}
+use Rattle.solver.specs.declared.Outcome.the-variants.{Feasible, Infeasible, BadClamp}
+use Rattle.solver.specs.declared.Solution.{Solution}
 use Rattle.solver.specs.ThreeD.{threeD}
 use Rattle.solver.specs.FourD.{fourD}
 

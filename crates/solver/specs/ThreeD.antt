@@ -7,13 +7,13 @@ use lib.Ieee.{Float}
 use Rattle.vectors.specs.declared.Vec3.{Vec3}
 use Rattle.vectors.specs.Number.{_⊗_, _>ᶠ_, zero}
 use Rattle.vectors.specs.Vec3.{_*ᵥ_, lengthSquared, normalize}
-use Rattle.solver.specs.declared.plane.Plane.{Plane}
-use Rattle.solver.specs.declared.plane.Optimum.{Optimum}
-use Rattle.solver.specs.declared.plane.Optimum.the-variants.{Point, Direction}
-use Rattle.solver.specs.declared.plane.Answer.{Answer}
-use Rattle.solver.specs.declared.plane.Answer.the-variants as answer
-use Rattle.solver.specs.declared.three_d.Outcome.{Outcome}
-use Rattle.solver.specs.declared.three_d.Outcome.the-variants.{Feasible, Infeasible, BadClamp}
+use Rattle.solver.specs.declared.Plane.{Plane}
+use Rattle.solver.specs.declared.Optimum.{Optimum}
+use Rattle.solver.specs.declared.Optimum.the-variants.{Point, Direction}
+use Rattle.solver.specs.declared.OnPlane.{OnPlane}
+use Rattle.solver.specs.declared.OnPlane.the-variants as onPlane
+use Rattle.solver.specs.declared.Outcome.{Outcome}
+use Rattle.solver.specs.declared.Outcome.the-variants.{Feasible, Infeasible, BadClamp}
 use Rattle.solver.specs.Plane.{signedDistance, inTurn}
 use Rattle.solver.specs.AlongPlane.{alongPlane}
 
@@ -25,14 +25,14 @@ startIn radius (Point x y z) =
     cond (lengthSquared point >ᶠ radius ⊗ radius) (normalize point *ᵥ radius) point
 
 -- what solving on the plane at `index` makes of the value that the planes before it left
-unfoldable pub onPlane : ℕ → Vec3 → Answer → Outcome
-onPlane index best (answer.Value value) = Feasible value
-onPlane index best answer.Infeasible = Infeasible (record { index = index; value = best })
-onPlane index best answer.BadClamp = BadClamp index
+unfoldable pub fromPlane : ℕ → Vec3 → OnPlane → Outcome
+fromPlane index best (onPlane.Value value) = Feasible value
+fromPlane index best onPlane.Infeasible = Infeasible (record { index = index; value = best })
+fromPlane index best onPlane.BadClamp = BadClamp index
 
 unfoldable pub byPlane : Float → Optimum → List Plane → Plane → Outcome → Outcome
 byPlane radius optimum passed constraint (Feasible best) =
-    cond (signedDistance constraint best >ᶠ zero) (Feasible best) (onPlane (length passed) best (alongPlane constraint radius passed optimum))
+    cond (signedDistance constraint best >ᶠ zero) (Feasible best) (fromPlane (length passed) best (alongPlane constraint radius passed optimum))
 byPlane radius optimum passed constraint (Infeasible failure) = Infeasible failure
 byPlane radius optimum passed constraint (BadClamp index) = BadClamp index
 

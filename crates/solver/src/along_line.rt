@@ -1,13 +1,14 @@
 // Document 01, module 3: `solve_linear_program_along_line`. The definitions are in
 // `specs/AlongLine.antt`.
 ghost use mathlib.Core.Path.{_≡_};
-ghost use Rattle.solver.specs.Plane.{planesIn};
+ghost use Rattle.solver.specs.Lent.{planesIn};
 ghost use Rattle.solver.specs.AlongLine.{alongLine, cutBy, cutAll, openOr, pointOn, bestOn};
-use super::plane::Answer;
-use super::plane::Line;
-use super::plane::Optimum;
-use super::plane::Plane;
-use super::plane::plane_at;
+use super::Line;
+use super::OnLine;
+use super::Optimum;
+use super::PLANE_NUMBERS;
+use super::Plane;
+use super::lent::plane_at;
 use vectors::Vec3;
 use vectors::number::Clamped;
 use vectors::number::RVO_EPSILON;
@@ -59,7 +60,7 @@ fn cut_by(line: Line, constraint: Plane, left: f32, right: f32) -> Cut
 fn cut_all(line: Line, planes: &[f32], start: f32, end: f32) -> Cut
     ensures { λ r. ⌜ r ≡ cutAll line (planesIn (now (planes .entry))) (Cut.Open start end) ⌝ }
 {
-    let count = planes.len() / 6;
+    let count = planes.len() / PLANE_NUMBERS;
     let mut left = start;
     let mut right = end;
     let mut index = 0;
@@ -87,42 +88,42 @@ fn point_on(line: Line, t: f32) -> Vec3
 }
 
 // The best value between two times.
-fn best_on(line: Line, optimum: Optimum, left: f32, right: f32) -> Answer
+fn best_on(line: Line, optimum: Optimum, left: f32, right: f32) -> OnLine
     ensures { λ r. ⌜ r ≡ bestOn line optimum (Cut.Open left right) ⌝ }
 {
     match optimum {
         Optimum::Direction { x, y, z } => {
             let direction = Vec3 { x, y, z };
             if direction.dot(line.direction) > 0.0 {
-                Answer::Value(point_on(line, right))
+                OnLine::Value(point_on(line, right))
             } else {
-                Answer::Value(point_on(line, left))
+                OnLine::Value(point_on(line, left))
             }
         }
         Optimum::Point { x, y, z } => {
             let point = Vec3 { x, y, z };
             let t = line.direction.dot(point.sub(line.point));
             match clamp(t, left, right) {
-                Clamped::Value(time) => Answer::Value(point_on(line, time)),
-                Clamped::BadBounds => Answer::BadClamp,
+                Clamped::Value(time) => OnLine::Value(point_on(line, time)),
+                Clamped::BadBounds => OnLine::BadClamp,
             }
         }
     }
 }
 
 // The best value on a line, within the sphere of `radius` and on the valid side of every plane of
-// `planes`, six numbers to each.
-pub fn along_line(line: Line, radius: f32, planes: &[f32], optimum: Optimum) -> Answer
+// `planes`, lent as numbers.
+pub fn along_line(line: Line, radius: f32, planes: &[f32], optimum: Optimum) -> OnLine
     ensures { λ r. ⌜ r ≡ alongLine line radius (planesIn (now (planes .entry))) optimum ⌝ }
 {
     let line_dot = line.point.dot(line.direction);
     let discriminant = line_dot * line_dot + radius * radius - line.point.dot(line.point);
     if discriminant < 0.0 {
-        return Answer::Infeasible;
+        return OnLine::Infeasible;
     }
     let half = root(discriminant);
     match cut_all(line, planes, -line_dot - half, -line_dot + half) {
         Cut::Open { left, right } => best_on(line, optimum, left, right),
-        Cut::Shut => Answer::Infeasible,
+        Cut::Shut => OnLine::Infeasible,
     }
 }

@@ -3,14 +3,16 @@
 ghost use mathlib.Core.Path.{_≡_};
 ghost use Prim.Native.Nat.{_*_, _/_, _<_};
 ghost use lib.ListN.{length, drop};
-ghost use Rattle.solver.specs.Plane.{planeAt, planesOf, planesIn};
+ghost use Rattle.solver.specs.Lent.{perPlane, planeAt, planesOf, planesIn};
 ghost use Rattle.solver.specs.AlongPlane.{alongPlane, startOn, onCircle, lineOn, byConstraint};
+use super::Line;
+use super::OnLine;
+use super::OnPlane;
+use super::Optimum;
+use super::PLANE_NUMBERS;
+use super::Plane;
 use super::along_line::along_line;
-use super::plane::Answer;
-use super::plane::Line;
-use super::plane::Optimum;
-use super::plane::Plane;
-use super::plane::plane_at;
+use super::lent::plane_at;
 use vectors::Vec3;
 use vectors::number::RVO_EPSILON;
 use vectors::root::root;
@@ -74,19 +76,19 @@ fn by_constraint(
     index: usize,
     best: Vec3,
     optimum: Optimum,
-) -> Answer
-    requires { ⌜ index < length (now planes) / 6 ⌝ }
-    ensures { λ r. ⌜ r ≡ byConstraint plane radius optimum (planesOf index (now (planes .entry))) (planeAt (drop (6 * index) (now (planes .entry)))) (Answer.Value best) ⌝ }
+) -> OnPlane
+    requires { ⌜ index < length (now planes) / perPlane ⌝ }
+    ensures { λ r. ⌜ r ≡ byConstraint plane radius optimum (planesOf index (now (planes .entry))) (planeAt (drop (perPlane * index) (now (planes .entry)))) (OnPlane.Value best) ⌝ }
 {
     let constraint = plane_at(planes, index);
     if constraint.signed_distance(best) >= 0.0 {
-        return Answer::Value(best);
+        return OnPlane::Value(best);
     }
     let across = constraint.normal.cross(plane.normal);
     if across.dot(across) <= RVO_EPSILON {
-        return Answer::Infeasible;
+        return OnPlane::Infeasible;
     }
-    let end = 6 * index;
+    let end = PLANE_NUMBERS * index;
     let answer = along_line(
         line_on(plane, constraint, across),
         radius,
@@ -94,32 +96,35 @@ fn by_constraint(
         optimum,
     );
     // A line that fails, fails the plane.
-    let Answer::Value(value) = answer else {
-        return answer;
+    if let OnLine::BadClamp = answer {
+        return OnPlane::BadClamp;
+    }
+    let OnLine::Value(value) = answer else {
+        return OnPlane::Infeasible;
     };
-    Answer::Value(value)
+    OnPlane::Value(value)
 }
 
 // The best value on a plane, within the sphere of `radius` and on the valid side of every plane of
-// `planes`, six numbers to each.
-pub fn along_plane(plane: Plane, radius: f32, planes: &[f32], optimum: Optimum) -> Answer
+// `planes`, lent as numbers.
+pub fn along_plane(plane: Plane, radius: f32, planes: &[f32], optimum: Optimum) -> OnPlane
     ensures { λ r. ⌜ r ≡ alongPlane plane radius (planesIn (now (planes .entry))) optimum ⌝ }
 {
     let distance = plane.point.dot(plane.normal);
     let radius_squared = radius * radius;
     if distance * distance > radius_squared {
-        return Answer::Infeasible;
+        return OnPlane::Infeasible;
     }
     let mut best = start_on(plane, distance, radius_squared, optimum);
-    let count = planes.len() / 6;
+    let count = planes.len() / PLANE_NUMBERS;
     let mut index = 0;
     while index < count {
         let answer = by_constraint(plane, radius, planes, index, best, optimum);
-        let Answer::Value(value) = answer else {
+        let OnPlane::Value(value) = answer else {
             return answer;
         };
         best = value;
         index += 1;
     }
-    Answer::Value(best)
+    OnPlane::Value(best)
 }

@@ -5,16 +5,18 @@
 ghost use mathlib.Core.Path.{_≡_};
 ghost use Prim.Native.Nat.{_+_, _-_, _*_, _/_, _≤_, _<_};
 ghost use lib.ListN.{length, drop};
-ghost use Rattle.solver.specs.Plane.{planeAt, planesOf};
+ghost use Rattle.solver.specs.Lent.{perPlane, scratchPerPlane, planeAt, planesOf};
 ghost use Rattle.solver.specs.FourD.{turnedPlane, turnBy, relaxBy, fourD, halfCleared};
-ghost use Rattle.solver.specs.FourDScratch.{Within, Keeps, TurnedAll, TurnedOne};
-use super::plane::Optimum;
-use super::plane::Plane;
-use super::plane::clear;
-use super::plane::plane_at;
-use super::plane::write_plane;
-use super::three_d::Failure;
-use super::three_d::Outcome;
+ghost use Rattle.solver.specs.parts.FourD.{Within, Keeps, TurnedAll, TurnedOne};
+use super::Failure;
+use super::Optimum;
+use super::Outcome;
+use super::PLANE_NUMBERS;
+use super::Plane;
+use super::SCRATCH_NUMBERS;
+use super::lent::clear;
+use super::lent::plane_at;
+use super::lent::write_plane;
 use super::three_d::three_d;
 use vectors::Vec3;
 use vectors::number::RVO_EPSILON;
@@ -101,7 +103,7 @@ fn turn_all(scratch: &mut [f32], count: usize, index: usize) -> usize
 // The value that the plane at `index` makes of the one so far.
 fn relax_by(scratch: &mut [f32], count: usize, radius: f32, index: usize, state: Relaxed) -> Relaxed
     requires { ⌜ Within count index (now scratch) ⌝ }
-    ensures value { λ r. ⌜ r ≡ relaxBy radius (planesOf index (now (scratch .entry))) (planeAt (drop (6 * index) (now (scratch .entry)))) state ⌝ }
+    ensures value { λ r. ⌜ r ≡ relaxBy radius (planesOf index (now (scratch .entry))) (planeAt (drop (perPlane * index) (now (scratch .entry)))) state ⌝ }
     ensures kept { λ r. ⌜ Keeps count (now (scratch .entry)) (now (scratch .exit)) ⌝ }
 {
     let constraint = plane_at(scratch, index);
@@ -109,8 +111,8 @@ fn relax_by(scratch: &mut [f32], count: usize, radius: f32, index: usize, state:
         return state;
     }
     let kept = turn_all(scratch, count, index);
-    let start = 6 * count;
-    let end = start + 6 * kept;
+    let start = PLANE_NUMBERS * count;
+    let end = start + PLANE_NUMBERS * kept;
     let normal = constraint.normal;
     let best = Optimum::Direction {
         x: normal.x,
@@ -128,13 +130,13 @@ fn relax_by(scratch: &mut [f32], count: usize, radius: f32, index: usize, state:
 }
 
 // The least penetrating value within the sphere of `radius`, from the plane at which the 3D program
-// failed. Of every 12 numbers of `scratch` the first 6 are planes, all together in its first half; the
+// failed. `scratch` is SCRATCH_NUMBERS for each plane: in its first half the planes, lent as numbers; the
 // second half is worked in, and is +0 at the end.
 pub fn four_d(scratch: &mut [f32], radius: f32, failure: Failure) -> Vec3
-    ensures value { λ r. ⌜ r ≡ fourD (planesOf (length (now (scratch .entry)) / 12) (now (scratch .entry))) radius failure ⌝ }
+    ensures value { λ r. ⌜ r ≡ fourD (planesOf (length (now (scratch .entry)) / scratchPerPlane) (now (scratch .entry))) radius failure ⌝ }
     ensures scratch { λ r. ⌜ now (scratch .exit) ≡ halfCleared (now (scratch .entry)) ⌝ }
 {
-    let count = scratch.len() / 12;
+    let count = scratch.len() / SCRATCH_NUMBERS;
     let partial = failure.value;
     let mut state = Relaxed {
         value: partial,
@@ -145,8 +147,8 @@ pub fn four_d(scratch: &mut [f32], radius: f32, failure: Failure) -> Vec3
         state = relax_by(scratch, count, radius, index, state);
         index += 1;
     }
-    let start = 6 * count;
-    let end = 12 * count;
+    let start = PLANE_NUMBERS * count;
+    let end = SCRATCH_NUMBERS * count;
     clear(&mut scratch[start..end]);
     state.value
 }

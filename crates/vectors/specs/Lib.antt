@@ -1,6 +1,6 @@
--- The definitions of document 01's module 1, which every layer above cites.
+-- The definitions of document 01's module 1, which every layer above cites; but for `parts`, which only private functions and proofs cite.
 pub mod Number
 pub mod Root
-pub mod RootParts
 pub mod Vec3
 pub mod Promise
+pub mod parts

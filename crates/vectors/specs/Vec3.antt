@@ -1,8 +1,9 @@
 -- Vectors of three: document 01's lines on glam, one IEEE 754 operation at a time and in this order.
-use mathlib.Core.Bool.{_&&_, cond}
-use lib.Ieee.{Float}
+use mathlib.Core.Bool.{Bool, _&&_, cond}
+use lib.Dec.{T}
+use lib.Ieee.{Float, binary32, fits}
 use Rattle.vectors.specs.declared.Vec3.{Vec3}
-use Rattle.vectors.specs.Number.{_⊕_, _⊖_, _⊗_, _⊘_, _>ᶠ_, zero, one, finite}
+use Rattle.vectors.specs.Number.{_⊕_, _⊖_, _⊗_, _⊘_, _>ᶠ_, zero, one, finite, plusZero}
 use Rattle.vectors.specs.Root.{root}
 
 infixl 65 _+ᵥ_ _-ᵥ_
@@ -56,3 +57,15 @@ normalizeOrZero v = let s = lengthRecip v in cond (finite s && s >ᶠ zero) (v *
 unfoldable pub distanceSquared : Vec3 → Vec3 → Float
 unfolding _-ᵥ_ lengthSquared
 distanceSquared u v = lengthSquared (u -ᵥ v)
+
+-- every component is finite
+unfoldable pub finiteVec : Vec3 → Bool
+finiteVec v = finite (v .x) && finite (v .y) && finite (v .z)
+
+-- not of glam: each component by `plusZero` of Number.antt, which writes a zero of either sign as +0
+unfoldable pub plusZeros : Vec3 → Vec3
+plusZeros v = record { x = plusZero (v .x); y = plusZero (v .y); z = plusZero (v .z) }
+
+-- what the type of a vector says: its components are binary32 numbers
+abbrev pub IsBinary32 : Vec3 → Type 0
+IsBinary32 v = T (fits binary32 (v .x)) × T (fits binary32 (v .y)) × T (fits binary32 (v .z))

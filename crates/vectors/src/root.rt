@@ -1,5 +1,5 @@
 // The square root: document 01's module 1, the nearest binary32. The definition is in
-// `specs/Root.antt`, and what the private functions promise each other in `specs/RootParts.antt`.
+// `specs/Root.antt`, and what the private functions promise each other in `specs/parts/Root.antt`.
 //
 // A positive finite argument is written a * 4^k with a of 47 or 48 binary digits. A guess at the root
 // of a is then tested by the two inequalities that make it the nearest. So nothing of the guess has
@@ -10,7 +10,7 @@ ghost use Prim.Native.Nat.{_+_, _*_, _^_, _≤_, _<_};
 ghost use lib.Dec.{leb, ltb};
 ghost use Rattle.vectors.specs.Number.{ofWord};
 ghost use Rattle.vectors.specs.Root.{root, nearestRoot};
-ghost use Rattle.vectors.specs.RootParts.{Parts};
+ghost use Rattle.vectors.specs.parts.Root.{Parts};
 
 // A float as digits * 2^power * 4^-149, with 24 binary digits.
 struct Scaled {

@@ -1,10 +1,11 @@
 // Vectors of three, with each operation that the three Rust files use of glam's `Vec3`, under glam's
-// names (its operators `+ - * /` are `add`, `sub`, `mul` and `div`). The definitions, in
-// `specs/Vec3.antt`, are document 01's lines on glam.
+// names (its operators `+ - * /` are `add`, `sub`, `mul` and `div`); `plus_zeros` alone is not glam's.
+// The definitions, in `specs/Vec3.antt`, are document 01's lines on glam.
 ghost use mathlib.Core.Path.{_≡_};
-ghost use Rattle.vectors.specs.Vec3.{zeroVec, _+ᵥ_, _-ᵥ_, _*ᵥ_, _/ᵥ_, dot, cross, lengthSquared, length, lengthRecip, normalize, normalizeOrZero, distanceSquared};
+ghost use Rattle.vectors.specs.Vec3.{zeroVec, _+ᵥ_, _-ᵥ_, _*ᵥ_, _/ᵥ_, dot, cross, lengthSquared, length, lengthRecip, normalize, normalizeOrZero, distanceSquared, finiteVec, plusZeros};
 use super::Vec3;
 use super::number::is_finite;
+use super::number::plus_zero;
 use super::root::root;
 
 impl Vec3 {
@@ -122,5 +123,31 @@ impl Vec3 {
         ensures { λ r. ⌜ r ≡ distanceSquared self other ⌝ }
     {
         self.sub(other).length_squared()
+    }
+
+    // Whether every component is finite.
+    pub fn is_finite(self) -> bool
+        ensures { λ r. ⌜ r ≡ finiteVec self ⌝ }
+    {
+        if is_finite(self.x) {
+            if is_finite(self.y) {
+                is_finite(self.z)
+            } else {
+                false
+            }
+        } else {
+            false
+        }
+    }
+
+    // The vector, with a component that is a zero of either sign written as +0.
+    pub fn plus_zeros(self) -> Vec3
+        ensures { λ r. ⌜ r ≡ plusZeros self ⌝ }
+    {
+        Vec3 {
+            x: plus_zero(self.x),
+            y: plus_zero(self.y),
+            z: plus_zero(self.z),
+        }
     }
 }

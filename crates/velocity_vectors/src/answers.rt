@@ -2,8 +2,9 @@
 ghost use mathlib.Core.Path.{_≡_};
 ghost use mathlib.Core.Bool.{true};
 use super::keys::Key;
-use avoidance::velocity::Reply;
+use avoidance::Reply;
 use lines::Fields;
+use refusals::Found;
 use vectors::number::to_word;
 
 // The plane of an answer that is not relaxed. No line can ask for it as a plane.
@@ -65,10 +66,9 @@ pub(crate) fn read_wanted(key: Key, fields: Fields) -> Wanted {
 }
 
 fn plane_of(reply: Reply) -> usize {
-    if let Reply::Relaxed { velocity: _, plane } = reply {
-        plane
-    } else {
-        NO_PLANE
+    match reply.relaxed() {
+        Found::At(plane) => plane,
+        Found::Nothing => NO_PLANE,
     }
 }
 

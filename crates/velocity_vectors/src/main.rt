@@ -30,8 +30,8 @@ mod verdicts;
 
 use answers::Answer;
 use answers::Wanted;
-use avoidance::checks::ReadRequest;
-use avoidance::checks::Request;
+use avoidance::ReadRequest;
+use avoidance::Request;
 use avoidance::velocity::velocity;
 use cases::Case;
 use keys::Key;

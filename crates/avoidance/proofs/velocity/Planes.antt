@@ -1,6 +1,6 @@
--- The planes of the neighbours, and their numbers in scratch.
+-- The planes of the neighbours, from one of them on, and the first that is not finite.
 use mathlib.Core.Path.{_≡_, refl, sym, ap, _∙_}
-use mathlib.Core.Bool.{true, false, cond}
+use mathlib.Core.Bool.{true, false, not}
 use mathlib.Core.List.{List, [], _∷_, _++_, append-assoc, append-nil}
 use Prim.Native.Nat.{ℕ, zero, suc, _+_, _-_, _*_, _≤_, _<_}
 use native.Mathlib.Numerals.{add-one}
@@ -8,13 +8,13 @@ use native.Mathlib.Omega.{arith}
 use lib.Ieee.{Float}
 use lib.ListN.{length, take, drop, length-append, length-drop}
 use lib.Seq.{drop-drop, take-at, drop-at}
-use Rattle.solver.specs.declared.plane.Plane.{Plane}
-use Rattle.avoidance.specs.declared.checks.Request.{Request}
-use Rattle.avoidance.specs.declared.checks.Found.{Found}
-use Rattle.avoidance.specs.declared.checks.Found.the-variants.{At, Nothing}
-use Rattle.solver.specs.Plane.{planeAt, planesOf, numbersOfPlane, withPlane}
-use Rattle.avoidance.specs.Velocity.{planeOf, planesFrom, finitePlane, firstPlane, numbersOfPlanes}
-use Rattle.solver.proofs.Written.{with-room, written-split}
+use Rattle.solver.specs.declared.Plane.{Plane}
+use Rattle.avoidance.specs.declared.Request.{Request}
+use Rattle.refusals.specs.declared.Found.{Found}
+use Rattle.refusals.specs.declared.Found.the-variants.{At, Nothing}
+use Rattle.refusals.specs.Conditions.{firstBad}
+use Rattle.refusals.proofs.Conditions.{first-here, first-later, first-none}
+use Rattle.avoidance.specs.Velocity.{planeOf, planesFrom, finitePlane, badPlane}
 
 -- ---- the list of planes
 
@@ -53,54 +53,11 @@ from-none request n k xs h = let none : n - k ≡ 0 = omega arith in ap (λ (m :
 
 -- ---- the first that is not finite
 
-pub found-here : (request : Request) (n k : ℕ) (xs : List Float) → k < n → finitePlane (planeOf request (drop (8 * k) xs)) ≡ false → firstPlane k (fromOn request n k xs) ≡ At k
-unfolding firstPlane
-found-here request n k xs h is = rw (from-step request n k xs h, is)
+pub found-here : (request : Request) (n k : ℕ) (xs : List Float) → k < n → finitePlane (planeOf request (drop (8 * k) xs)) ≡ false → firstBad badPlane k (fromOn request n k xs) ≡ At k
+found-here request n k xs h is = first-here badPlane k _ _ _ (from-step request n k xs h) (ap not is)
 
-pub found-later : (request : Request) (n k : ℕ) (xs : List Float) → k < n → finitePlane (planeOf request (drop (8 * k) xs)) ≡ true → firstPlane k (fromOn request n k xs) ≡ firstPlane (k + 1) (fromOn request n (k + 1) xs)
-unfolding firstPlane
-found-later request n k xs h is = rw (from-step request n k xs h, is, add-one k)
+pub found-later : (request : Request) (n k : ℕ) (xs : List Float) → k < n → finitePlane (planeOf request (drop (8 * k) xs)) ≡ true → firstBad badPlane k (fromOn request n k xs) ≡ firstBad badPlane (k + 1) (fromOn request n (k + 1) xs)
+found-later request n k xs h is = first-later badPlane k _ _ _ (from-step request n k xs h) (ap not is)
 
-pub found-none : (request : Request) (n k : ℕ) (xs : List Float) → n ≤ k → firstPlane k (fromOn request n k xs) ≡ Nothing
-unfolding firstPlane
-found-none request n k xs h = rw (from-none request n k xs h)
-
--- ---- planes as numbers
-
-pub flat-length : (ps : List Plane) → length (numbersOfPlanes ps) ≡ 6 * length ps
-unfolding numbersOfPlane numbersOfPlanes
-flat-length [] = refl
-flat-length (p ∷ ps) = let rec = flat-length ps in omega arith
-
-flat-append : (ps qs : List Plane) → numbersOfPlanes (ps ++ qs) ≡ numbersOfPlanes ps ++ numbersOfPlanes qs
-unfolding numbersOfPlanes
-flat-append [] qs = refl
-flat-append (p ∷ ps) qs = ap (λ (xs : List Float). numbersOfPlane p ++ xs) (flat-append ps qs) ∙ sym (append-assoc (numbersOfPlane p) (numbersOfPlanes ps) (numbersOfPlanes qs))
-
-flat-one : (p : Plane) → numbersOfPlane p ≡ numbersOfPlanes (p ∷ [])
-unfolding numbersOfPlanes
-flat-one p = sym (append-nil (numbersOfPlane p))
-
--- what is read back
-pub flat-read : (ps : List Plane) (zs : List Float) → planesOf (length ps) (numbersOfPlanes ps ++ zs) ≡ ps
-unfolding planesOf planeAt numbersOfPlane numbersOfPlanes
-flat-read [] zs = refl
-flat-read (p ∷ ps) zs = ap (λ (qs : List Plane). p ∷ qs) (flat-read ps zs)
-
--- one plane more, written after those that stand
-pub written-next : (ps : List Plane) (k : ℕ) (xs : List Float) (p : Plane) → length ps ≡ k → 6 * k + 6 ≤ length xs
-    → withPlane (numbersOfPlanes ps ++ drop (6 * k) xs) k p ≡ numbersOfPlanes (ps ++ p ∷ []) ++ drop (6 * (k + 1)) xs
-written-next ps k xs p is h =
-    let flat : length (numbersOfPlanes ps) ≡ 6 * k = flat-length ps ∙ ap (λ (m : ℕ). 6 * m) is in
-    let ys = numbersOfPlanes ps ++ drop (6 * k) xs in
-    let room : 6 * k + 6 ≤ length ys = omega (arith, length-append (numbersOfPlanes ps) (drop (6 * k) xs), length-drop (6 * k) xs) in
-    let next : 6 * k + 6 ≡ 6 * (k + 1) = omega arith in
-    let past : drop (6 * k + 6) ys ≡ drop (6 * (k + 1)) xs =
-    sym (drop-drop 6 (6 * k) ys) ∙ ap (drop 6) (drop-at (numbersOfPlanes ps) (drop (6 * k) xs) (6 * k) flat) ∙ drop-drop 6 (6 * k) xs ∙ ap (λ (m : ℕ). drop m xs) next in
-    with-room ys k p (omega arith)
-    ∙ written-split ys (6 * k) p room
-    ∙ ap (λ (zs : List Float). zs ++ (numbersOfPlane p ++ drop (6 * k + 6) ys)) (take-at (numbersOfPlanes ps) (drop (6 * k) xs) (6 * k) flat)
-    ∙ ap (λ (zs : List Float). numbersOfPlanes ps ++ (numbersOfPlane p ++ zs)) past
-    ∙ sym (append-assoc (numbersOfPlanes ps) (numbersOfPlane p) (drop (6 * (k + 1)) xs))
-    ∙ ap (λ (zs : List Float). numbersOfPlanes ps ++ zs ++ drop (6 * (k + 1)) xs) (flat-one p)
-    ∙ ap (λ (zs : List Float). zs ++ drop (6 * (k + 1)) xs) (sym (flat-append ps (p ∷ [])))
+pub found-none : (request : Request) (n k : ℕ) (xs : List Float) → n ≤ k → firstBad badPlane k (fromOn request n k xs) ≡ Nothing
+found-none request n k xs h = first-none badPlane k _ (from-none request n k xs h)

@@ -1,17 +1,16 @@
 use mathlib.Core.Path.{_≡_, refl, sym, _∙_}
-use mathlib.Core.Bool.{Bool, true, false, _&&_, cond}
+use mathlib.Core.Bool.{Bool, true, false, _&&_}
 use mathlib.Core.List.{List}
-use Prim.Native.Nat.{ℕ}
-use native.Mathlib.Omega.{arith}
 use lib.Dec.{eqb}
 use lib.ListN.{length}
 use lib.Ieee.{Float}
 use borrow.Author.Needs.{needs}
 use borrow.Author.Tests.{eq-eqb, ne-eqb}
 use denote.Ref.{now}
-use Rattle.avoidance.specs.declared.checks.Request.{Request}
-use Rattle.avoidance.specs.declared.checks.ReadRequest.the-variants.{Is, BadLength}
-use Rattle.avoidance.specs.Checks.{requestAt, readRequest}
+use Rattle.avoidance.specs.declared.Request.{Request}
+use Rattle.avoidance.specs.declared.ReadRequest.the-variants.{Is, BadLength}
+use Rattle.avoidance.specs.Request.{perRequest, requestAt, readRequest}
+use Rattle.avoidance.proofs.RequestLaws.{not-read, is-read}
 use Rattle.guineacrumb.specs.Velocity.{fits, replyTo, answer, scratchLeft, velocityLeft, placeLeft, relaxedLeft}
 use Rattle.guineacrumb.proofs.guineacrumb_velocity.Statement.{statement}
 use Rattle.guineacrumb.proofs.guineacrumb_velocity.Tie as tie
@@ -20,27 +19,21 @@ use Rattle.guineacrumb.proofs.guineacrumb_velocity.Tie as tie
 module _ (velocity request : List Float) where
   bad-velocity : (length velocity ≡ 3 → ⊥) → fits request velocity ≡ false
   unfolding fits
-  bad-velocity other = go (eqb (length request) 17)
+  bad-velocity other = go (eqb (length request) perRequest)
     where
       go : (b : Bool) → b && eqb (length velocity) 3 ≡ false
       go true = ne-eqb (length velocity) 3 other
       go false = refl
 
   bad-request : readRequest request ≡ BadLength → fits request velocity ≡ false
-  unfolding fits readRequest
-  bad-request = go (eqb (length request) 17)
-    where
-      go : (b : Bool) → cond b (Is (requestAt request)) BadLength ≡ BadLength → b && eqb (length velocity) 3 ≡ false
-      go true e = let z : _≡_ {A = ℕ} 0 1 = cc in absurd (omega arith)
-      go false e = refl
+  unfolding fits
+  bad-request e = rw (not-read request e)
 
   good : (asked : Request) → length velocity ≡ 3 → readRequest request ≡ Is asked → (fits request velocity ≡ true) × (asked ≡ requestAt request)
-  unfolding fits readRequest
-  good asked three = go (eqb (length request) 17)
-    where
-      go : (b : Bool) → cond b (Is (requestAt request)) BadLength ≡ Is asked → (b && eqb (length velocity) 3 ≡ true) × (asked ≡ requestAt request)
-      go true e = (eq-eqb (length velocity) 3 three, cc)
-      go false e = let z : _≡_ {A = ℕ} 0 1 = cc in absurd (omega arith)
+  unfolding fits
+  good asked three e =
+      let (long, same) = is-read request asked e in
+      (rw long (eq-eqb (length velocity) 3 three), same)
 
 returns : tie.Need-returns
 unfolding answer scratchLeft velocityLeft placeLeft relaxedLeft

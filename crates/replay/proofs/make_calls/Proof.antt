@@ -17,8 +17,8 @@ loop-holds c = search needs
 read-next-requires : tie.Need-read-next-requires Inv-loop μ-loop
 read-next-requires c κs = search needs
 
-enum-known-found : tie.Need-enum-known-found Inv-loop μ-loop
-enum-known-found c = search needs
+enum-known-item : tie.Need-enum-known-item Inv-loop μ-loop
+enum-known-item c = search needs
 
 make-requires : tie.Need-make-requires Inv-loop μ-loop
 make-requires c κs = search needs
@@ -58,7 +58,7 @@ make-calls-spec =
     μ-loop
     loop-holds
     read-next-requires
-    enum-known-found
+    enum-known-item
     make-requires
     enum-told
     returns

@@ -8,12 +8,12 @@ use lib.ListN.{length, take, drop, replicate, length-drop, length-append, length
 use lib.Seq.{drop-drop, take-take, length-take-le}
 use lib.Ieee.{Float}
 use Rattle.vectors.specs.Number.{zero as zero32}
-use Rattle.solver.specs.declared.plane.Plane.{Plane}
+use Rattle.solver.specs.declared.Plane.{Plane}
 use Rattle.solver.specs.declared.four_d.Turned.{Turned}
 use Rattle.solver.specs.declared.four_d.Turned.the-variants.{Kept, LeftOut}
-use Rattle.solver.specs.Plane.{planeAt, planesOf, planesIn}
+use Rattle.solver.specs.Lent.{planeAt, planesOf, planesIn}
 use Rattle.solver.specs.FourD.{kept, turnBy, turnedAll, halfCleared}
-use Rattle.solver.specs.FourDScratch.{Keeps, TurnedOne}
+use Rattle.solver.specs.parts.FourD.{Keeps, TurnedOne}
 use Rattle.solver.proofs.Planes.{rest, rest-step, passed-step, planes-take, planes-lent, planeAt-take, drop-take}
 use Rattle.solver.proofs.Written.{written, written-before, written-read}
 

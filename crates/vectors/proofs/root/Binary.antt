@@ -17,7 +17,7 @@ use lib.Ieee.Fits.{up-pos, down-pos}
 use borrow.Author.Tests.{lt-ltb, le-leb, lt-leb, leb-true, leb-false, ne-eqb}
 use Rattle.vectors.specs.Number.{finite, ofWord, toWord, zero as zero32, one, _⊘_}
 use Rattle.vectors.specs.Root.{root, rootOf, nearestRoot}
-use Rattle.vectors.specs.RootParts.{Parts}
+use Rattle.vectors.specs.parts.Root.{Parts}
 use Rattle.vectors.proofs.root.Whole.{nearest-near, near-least, near-most}
 
 -- ---- from the parts of an argument to its root

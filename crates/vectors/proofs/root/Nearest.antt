@@ -18,7 +18,7 @@ use lib.Ieee.Fits.{down-pos, odd-fits}
 use borrow.Author.Tests.{le-ltb}
 use Rattle.vectors.specs.Number.{ofWord, toWord, finite, _<ᶠ_, _⊘_, one, zero as zero32}
 use Rattle.vectors.specs.Root.{root, nearestRoot, NearestRoot}
-use Rattle.vectors.specs.RootParts.{Parts, Near}
+use Rattle.vectors.specs.parts.Root.{Parts, Near}
 use Rattle.vectors.proofs.root.Whole.{nearest-near, nearest-only, near-says, near-of}
 use Rattle.vectors.proofs.root.Binary.{wholePart, halfPower, split-power, whole-bounds, root-bounds, root-parts, root-scaled, positive-word, above-zero, normal-parts, subnormal-parts, shiftOf}
 

@@ -8,7 +8,7 @@ use native.Mathlib.Omega.{arith}
 use lib.Dec.{T, leb, ltb, leb→le, nleb→lt, ltb→lt, nltb→le}
 use lib.Pow.{shl-lt}
 use Rattle.vectors.specs.Root.{floorRoot, nearestRoot}
-use Rattle.vectors.specs.RootParts.{Near}
+use Rattle.vectors.specs.parts.Root.{Near}
 
 -- a number of i digits times one of j digits has at most i + j
 pub mul-lt-pow : {a b : ℕ} (i j : ℕ) → a < 2 ^ i → b < 2 ^ j → a * b < 2 ^ (i + j)

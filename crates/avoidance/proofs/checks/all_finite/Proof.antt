@@ -3,16 +3,18 @@ use mathlib.Core.Bool.{true, not, false≢true}
 use mathlib.Core.Logic.{⊎-elim}
 use Prim.Native.Nat.{_+_, _-_, _≤_}
 use native.Mathlib.Omega.{arith}
+use lib.Ieee.{nan}
 use lib.ListN.{length, drop}
 use borrow.Author.Needs.{needs}
-use Rattle.avoidance.specs.declared.checks.Asked.the-variants.{Finite}
-use Rattle.avoidance.specs.Checks.{bad, firstBad}
-use Rattle.avoidance.proofs.checks.Passed.{later, past}
+use Rattle.avoidance.specs.declared.Asked.the-variants.{Finite}
+use Rattle.refusals.specs.Conditions.{firstBad}
+use Rattle.refusals.proofs.Conditions.{bad-later, bad-past}
+use Rattle.avoidance.specs.Checks.{badNumber}
 use Rattle.avoidance.proofs.checks.all_finite.Statement.{statement}
 use Rattle.avoidance.proofs.checks.all_finite.Tie as tie
 
 abbrev Inv-loop : tie.InvT-loop
-Inv-loop numbers all₀ index₀ all index = (index ≤ length numbers) × (all ≡ true → firstBad Finite (17 + index) (drop index numbers) ≡ firstBad Finite 17 numbers)
+Inv-loop numbers all₀ index₀ all index = (index ≤ length numbers) × (all ≡ true → firstBad (badNumber Finite) (17 + index) (drop index numbers) ≡ firstBad (badNumber Finite) 17 numbers)
 
 abbrev μ-loop : tie.MeasureT-loop
 μ-loop numbers all₀ index₀ all index = length numbers - index
@@ -36,18 +38,18 @@ loop-less : tie.Need-loop-less Inv-loop μ-loop
 loop-less c = omega arith
 
 loop-again : tie.Need-loop-again Inv-loop μ-loop
-unfolding bad
+unfolding badNumber
 loop-again c =
     let in-loop = c .before .before .before in (
       omega arith,
       ⊎-elim
           (λ w all. absurd (false≢true (sym (w .1) ∙ all)))
-          (λ w all. sym (later Finite 17 _ _ (in-loop .loop-test .taken) (sym (ap not (c .before .is-finite .ensures)) ∙ w .0 .left)) ∙ in-loop .before .loop .inv .1 (sym (w .1) ∙ all))
+          (λ w all. sym (bad-later (badNumber Finite) 17 _ _ nan (in-loop .loop-test .taken) (sym (ap not (c .before .is-finite .ensures)) ∙ w .0 .left)) ∙ in-loop .before .loop .inv .1 (sym (w .1) ∙ all))
           (c .if1 .came),
     )
 
 returns : tie.Need-returns Inv-loop μ-loop
-returns c = λ all. sym (c .before .loop .inv .1 all) ∙ past Finite _ _ _ (c .loop-test .left)
+returns c = λ all. sym (c .before .loop .inv .1 all) ∙ bad-past (badNumber Finite) _ _ _ (c .loop-test .left)
 
 pub all-finite-spec : {M : Type 1} → statement M
 all-finite-spec =

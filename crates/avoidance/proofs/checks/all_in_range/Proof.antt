@@ -11,45 +11,46 @@ use lib.ListN.{length, getD, drop}
 use borrow.Author.Tests.{le-ltb, le-leb, lt-leb}
 use borrow.Author.Needs.{needs}
 use Rattle.vectors.specs.Number.{_<ᶠ_, zero}
-use Rattle.avoidance.specs.declared.checks.Asked.the-variants.{InRange}
-use Rattle.avoidance.specs.declared.checks.Found.{Found}
-use Rattle.avoidance.specs.declared.checks.Kind.{Kind}
-use Rattle.avoidance.specs.declared.checks.Kind.the-variants.{Any, NotNegative}
-use Rattle.avoidance.specs.Checks.{bad, outside, kindAt, firstBad}
-use Rattle.avoidance.proofs.checks.Passed.{later, skip, past}
+use Rattle.avoidance.specs.declared.Asked.the-variants.{InRange}
+use Rattle.refusals.specs.declared.Found.{Found}
+use Rattle.avoidance.specs.declared.Kind.{Kind}
+use Rattle.avoidance.specs.declared.Kind.the-variants.{Any, NotNegative}
+use Rattle.refusals.specs.Conditions.{firstBad}
+use Rattle.refusals.proofs.Conditions.{bad-later, bad-skip, bad-past}
+use Rattle.avoidance.specs.Checks.{badNumber, outside, callKind}
 use Rattle.avoidance.proofs.checks.all_in_range.Statement.{statement}
 use Rattle.avoidance.proofs.checks.all_in_range.Tie as tie
 
 -- what is asked of a neighbour's number k
-kind-of : (index k : ℕ) → k < 8 → kindAt (17 + (8 * index + k)) ≡ cond (leb 6 k) NotNegative Any
-unfolding kindAt
+kind-of : (index k : ℕ) → k < 8 → callKind (17 + (8 * index + k)) ≡ cond (leb 6 k) NotNegative Any
+unfolding callKind
 kind-of index k h =
     let number : (17 + (8 * index + k) - 17) % 8 ≡ k = omega (arith, h) in
     simp (le-ltb (17 + (8 * index + k)) 17 (omega arith), number)
 
-any : (index k : ℕ) (x : Float) → k < 6 → bad InRange (17 + (8 * index + k)) x ≡ false
-unfolding bad outside
+any : (index k : ℕ) (x : Float) → k < 6 → badNumber InRange (17 + (8 * index + k)) x ≡ false
+unfolding badNumber outside
 any index k x h = ap (λ (kind : Kind). outside kind x) (kind-of index k (omega (arith, h)) ∙ ap (λ (b : Bool). cond b NotNegative Any) (lt-leb _ _ h))
 
-last : (index k : ℕ) (x : Float) → 6 ≤ k → k < 8 → x <ᶠ zero ≡ false → bad InRange (17 + (8 * index + k)) x ≡ false
-unfolding bad outside
+last : (index k : ℕ) (x : Float) → 6 ≤ k → k < 8 → x <ᶠ zero ≡ false → badNumber InRange (17 + (8 * index + k)) x ≡ false
+unfolding badNumber outside
 last index k x h g is = ap (λ (kind : Kind). outside kind x) (kind-of index k g ∙ ap (λ (b : Bool). cond b NotNegative Any) (le-leb _ _ h)) ∙ is
 
 -- a neighbour is passed over
 neighbour : (index : ℕ) (xs : List Float) → 8 * index + 8 ≤ length xs → (getD xs (8 * index + 6) nan <ᶠ zero ≡ false) × (getD xs (8 * index + 7) nan <ᶠ zero ≡ false)
-    → firstBad InRange (17 + 8 * index) (drop (8 * index) xs) ≡ firstBad InRange (17 + 8 * (index + 1)) (drop (8 * (index + 1)) xs)
+    → firstBad (badNumber InRange) (17 + 8 * index) (drop (8 * index) xs) ≡ firstBad (badNumber InRange) (17 + 8 * (index + 1)) (drop (8 * (index + 1)) xs)
 neighbour index xs h good =
-    let from : ℕ → Found = λ k. firstBad InRange (17 + k) (drop k xs) in
+    let from : ℕ → Found = λ k. firstBad (badNumber InRange) (17 + k) (drop k xs) in
     let seventh : 8 * index + 6 + 1 ≡ 8 * index + 7 = omega arith in
     let next : 8 * index + 7 + 1 ≡ 8 * (index + 1) = omega arith in
-    skip 6 InRange 17 (8 * index) xs (omega (arith, h)) (λ k less. any index k _ less)
-    ∙ later InRange 17 (8 * index + 6) xs (omega (arith, h)) (last index 6 _ (omega arith) (omega arith) (good .0))
+    bad-skip (badNumber InRange) 6 17 (8 * index) xs nan (omega (arith, h)) (λ k less. any index k _ less)
+    ∙ bad-later (badNumber InRange) 17 (8 * index + 6) xs nan (omega (arith, h)) (last index 6 _ (omega arith) (omega arith) (good .0))
     ∙ ap from seventh
-    ∙ later InRange 17 (8 * index + 7) xs (omega (arith, h)) (last index 7 _ (omega arith) (omega arith) (good .1))
+    ∙ bad-later (badNumber InRange) 17 (8 * index + 7) xs nan (omega (arith, h)) (last index 7 _ (omega arith) (omega arith) (good .1))
     ∙ ap from next
 
 abbrev Inv-loop : tie.InvT-loop
-Inv-loop numbers count all₀ index₀ all index = (index ≤ count) × (all ≡ true → firstBad InRange (17 + 8 * index) (drop (8 * index) numbers) ≡ firstBad InRange 17 numbers)
+Inv-loop numbers count all₀ index₀ all index = (index ≤ count) × (all ≡ true → firstBad (badNumber InRange) (17 + 8 * index) (drop (8 * index) numbers) ≡ firstBad (badNumber InRange) 17 numbers)
 
 abbrev μ-loop : tie.MeasureT-loop
 μ-loop numbers count all₀ index₀ all index = count - index
@@ -104,7 +105,7 @@ loop-again c =
 returns-2 : tie.Need-returns-2 Inv-loop μ-loop
 returns-2 c =
     let start = c .before .before .before .before in
-    λ all. sym (c .before .loop .inv .1 all) ∙ past InRange _ (8 * c .before .loop .index) (now (start .args .numbers)) (omega arith)
+    λ all. sym (c .before .loop .inv .1 all) ∙ bad-past (badNumber InRange) _ (8 * c .before .loop .index) (now (start .args .numbers)) (omega arith)
 
 pub all-in-range-spec : {M : Type 1} → statement M
 all-in-range-spec =

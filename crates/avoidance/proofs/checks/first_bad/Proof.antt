@@ -10,21 +10,17 @@ use denote.Ref.{now}
 use lib.Ieee.{Float, nan}
 use lib.ListN.{length, getD, drop, drop-of-length-le}
 use lib.Seq.{drop-cons}
-use Rattle.avoidance.specs.declared.checks.Asked.{Asked}
-use Rattle.avoidance.specs.declared.checks.Found.{Found}
-use Rattle.avoidance.specs.declared.checks.Found.the-variants.{At, Nothing}
-use Rattle.avoidance.specs.Checks.{bad, firstBad}
-use Rattle.avoidance.proofs.checks.Passed.{later}
+use Rattle.avoidance.specs.declared.Asked.{Asked}
+use Rattle.refusals.specs.declared.Found.{Found}
+use Rattle.refusals.specs.declared.Found.the-variants.{At, Nothing}
+use Rattle.refusals.specs.Conditions.{firstBad}
+use Rattle.refusals.proofs.Conditions.{bad-here, bad-later, bad-past}
+use Rattle.avoidance.specs.Checks.{badNumber}
 use Rattle.avoidance.proofs.checks.first_bad.Statement.{statement}
 use Rattle.avoidance.proofs.checks.first_bad.Tie as tie
 
--- a number is the first bad one
-here : (asked : Asked) (start index : ℕ) (xs : List Float) → index < length xs → bad asked (start + index) (getD xs index nan) ≡ true → firstBad asked (start + index) (drop index xs) ≡ At (start + index)
-unfolding firstBad
-here asked start index xs h is = rw (drop-cons xs index nan h, is)
-
 abbrev Inv-loop : tie.InvT-loop
-Inv-loop asked start numbers index₀ index = (index ≤ length numbers) × (firstBad asked (start + index) (drop index numbers) ≡ firstBad asked start numbers)
+Inv-loop asked start numbers index₀ index = (index ≤ length numbers) × (firstBad (badNumber asked) (start + index) (drop index numbers) ≡ firstBad (badNumber asked) start numbers)
 
 abbrev μ-loop : tie.MeasureT-loop
 μ-loop asked start numbers index₀ index = length numbers - index
@@ -51,7 +47,7 @@ returns : tie.Need-returns Inv-loop μ-loop
 returns c =
     let at = c .before .before .before .before in
     let start = at .before .before in
-    sym (here (start .args .asked) (start .args .start) (at .loop .index) (now (start .args .numbers)) (c .before .before .before .loop-test .taken) (sym (c .before .is-bad .ensures) ∙ c .if1 .taken)) ∙ at .loop .inv .1
+    sym (bad-here (badNumber (start .args .asked)) (start .args .start) (at .loop .index) (now (start .args .numbers)) nan (c .before .before .before .loop-test .taken) (sym (c .before .is-bad .ensures) ∙ c .if1 .taken)) ∙ at .loop .inv .1
 
 add-index : tie.Need-add-index Inv-loop μ-loop
 add-index c = omega arith
@@ -63,14 +59,13 @@ loop-again : tie.Need-loop-again Inv-loop μ-loop
 loop-again c =
     let at = c .before .before .before .before in
     let start = at .before .before in
-    (omega arith, sym (later (start .args .asked) (start .args .start) (at .loop .index) (now (start .args .numbers)) (c .before .before .before .loop-test .taken) (sym (c .before .is-bad .ensures) ∙ c .if1 .left)) ∙ at .loop .inv .1)
+    (omega arith, sym (bad-later (badNumber (start .args .asked)) (start .args .start) (at .loop .index) (now (start .args .numbers)) nan (c .before .before .before .loop-test .taken) (sym (c .before .is-bad .ensures) ∙ c .if1 .left)) ∙ at .loop .inv .1)
 
 returns-2 : tie.Need-returns-2 Inv-loop μ-loop
-unfolding firstBad
 returns-2 c =
     let at = c .before in
     let start = at .before .before in
-    sym (ap (firstBad (start .args .asked) (start .args .start + at .loop .index)) (drop-of-length-le (now (start .args .numbers)) (c .loop-test .left))) ∙ at .loop .inv .1
+    sym (bad-past (badNumber (start .args .asked)) (start .args .start + at .loop .index) (at .loop .index) (now (start .args .numbers)) (c .loop-test .left)) ∙ at .loop .inv .1
 
 pub first-bad-spec : {M : Type 1} → statement M
 first-bad-spec =

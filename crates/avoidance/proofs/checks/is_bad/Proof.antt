@@ -1,5 +1,5 @@
 use borrow.Author.Needs.{needs}
-use Rattle.avoidance.specs.Checks.{bad}
+use Rattle.avoidance.specs.Checks.{badNumber}
 use Rattle.avoidance.proofs.checks.is_bad.Statement.{statement}
 use Rattle.avoidance.proofs.checks.is_bad.Tie as tie
 
@@ -12,21 +12,21 @@ is-finite-requires c κs = search needs
 enum-told-2 : tie.Need-enum-told-2
 enum-told-2 c = search needs
 
-kind-at-requires : tie.Need-kind-at-requires
-kind-at-requires c κs = search needs
+call-kind-requires : tie.Need-call-kind-requires
+call-kind-requires c κs = search needs
 
 is-outside-requires : tie.Need-is-outside-requires
 is-outside-requires c κs = search needs
 
 returns : tie.Need-returns
-unfolding bad
+unfolding badNumber
 returns c = simp (c .before .enum-told .given .1, ← c .is-finite .ensures)
 
 returns-2 : tie.Need-returns-2
-unfolding bad
-returns-2 c = simp (c .before .before .enum-told2 .given .1, ← c .before .kind-at .ensures, ← c .is-outside .ensures)
+unfolding badNumber
+returns-2 c = simp (c .before .before .enum-told2 .given .1, ← c .before .call-kind .ensures, ← c .is-outside .ensures)
 
 pub is-bad-spec : {M : Type 1} → statement M
 is-bad-spec =
     tie.close
-    (tie.spec enum-told is-finite-requires enum-told-2 kind-at-requires is-outside-requires returns returns-2)
+    (tie.spec enum-told is-finite-requires enum-told-2 call-kind-requires is-outside-requires returns returns-2)

@@ -4,12 +4,12 @@ use Rattle.avoidance.specs.Velocity.{replyOf, answered}
 use Rattle.avoidance.proofs.velocity.reply_of.Statement.{statement}
 use Rattle.avoidance.proofs.velocity.reply_of.Tie as tie
 
-is-finite-vector-requires : tie.Need-is-finite-vector-requires
-is-finite-vector-requires c κs = search needs
+is-finite-requires : tie.Need-is-finite-requires
+is-finite-requires c κs = search needs
 
 returns : tie.Need-returns
 unfolding replyOf answered
-returns c = simp (← c .before .is-finite-vector .ensures, not-true (c .before .is-finite-vector .result) (c .if1 .taken))
+returns c = simp (← c .before .is-finite .ensures, not-true (c .before .is-finite .result) (c .if1 .taken))
 
 plus-zeros-requires : tie.Need-plus-zeros-requires
 plus-zeros-requires c κs = search needs
@@ -27,25 +27,25 @@ returns-2 : tie.Need-returns-2
 unfolding replyOf answered
 returns-2 c =
     let b3 = c .before .before .before in
-    simp (← b3 .before .is-finite-vector .ensures, not-false (b3 .before .is-finite-vector .result) (b3 .if1 .left), ← c .before .before .plus-zeros .ensures, c .enum-told .given .1)
+    simp (← b3 .before .is-finite .ensures, not-false (b3 .before .is-finite .result) (b3 .if1 .left), ← c .before .before .plus-zeros .ensures, c .enum-told .given .1)
 
 returns-3 : tie.Need-returns-3
 unfolding replyOf answered
 returns-3 c =
     let b3 = c .before .before .before in
-    simp (← b3 .before .before .is-finite-vector .ensures, not-false (b3 .before .before .is-finite-vector .result) (b3 .before .if1 .left), ← b3 .plus-zeros .ensures, c .before .outcome .given .1)
+    simp (← b3 .before .before .is-finite .ensures, not-false (b3 .before .before .is-finite .result) (b3 .before .if1 .left), ← b3 .plus-zeros .ensures, c .before .outcome .given .1)
 
 returns-4 : tie.Need-returns-4
 unfolding replyOf answered
 returns-4 c =
     let b3 = c .before .before .before in
-    simp (← b3 .before .is-finite-vector .ensures, not-false (b3 .before .is-finite-vector .result) (b3 .if1 .left), c .enum-told2 .given .1)
+    simp (← b3 .before .is-finite .ensures, not-false (b3 .before .is-finite .result) (b3 .if1 .left), c .enum-told2 .given .1)
 
 pub reply-of-spec : {M : Type 1} → statement M
 reply-of-spec =
     tie.close
     (tie.spec
-    is-finite-vector-requires
+    is-finite-requires
     returns
     plus-zeros-requires
     enum-told

@@ -8,25 +8,25 @@ use borrow.Author.Tests.{not-true, not-false}
 use denote.Ref.{now}
 use lib.Ieee.{Float}
 use lib.ListN.{length, drop, length-set}
-use Rattle.solver.specs.declared.plane.Plane.{Plane}
-use Rattle.avoidance.specs.declared.checks.Found.{Found}
-use Rattle.avoidance.specs.declared.checks.Found.the-variants.{At, Nothing}
-use Rattle.solver.specs.Plane.{withPlane}
-use Rattle.avoidance.specs.Velocity.{planeOf, planesFrom, finitePlane, firstPlane, numbersOfPlanes}
+use Rattle.solver.specs.declared.Plane.{Plane}
+use Rattle.refusals.specs.declared.Found.{Found}
+use Rattle.refusals.specs.declared.Found.the-variants.{At, Nothing}
+use Rattle.refusals.specs.Conditions.{firstBad}
+use Rattle.refusals.proofs.Conditions.{no-place}
+use Rattle.solver.specs.Lent.{withPlane, numbersOfPlanes}
 use Rattle.solver.proofs.Written.{with-room, written-length}
-use Rattle.avoidance.proofs.velocity.Planes.{fromOn, from-all, from-length, from-more, found-here, found-later, found-none, written-next}
+use Rattle.solver.proofs.LentPlanes.{written-next}
+use Rattle.avoidance.specs.Velocity.{planeOf, planesFrom, finitePlane, badPlane}
+use Rattle.avoidance.proofs.velocity.Planes.{fromOn, from-all, from-length, from-more, found-here, found-later, found-none}
 use Rattle.avoidance.proofs.velocity.write_planes.Statement.{statement}
 use Rattle.avoidance.proofs.velocity.write_planes.Tie as tie
 
 abbrev Inv-loop : tie.InvT-loop
 Inv-loop scratch₀ request neighbours count index₀ scratch index =
-    (index ≤ count) × (length scratch ≡ length scratch₀) × (scratch ≡ numbersOfPlanes (planesFrom request index neighbours) ++ drop (6 * index) scratch₀) × (firstPlane index (fromOn request count index neighbours) ≡ firstPlane 0 (planesFrom request count neighbours))
+    (index ≤ count) × (length scratch ≡ length scratch₀) × (scratch ≡ numbersOfPlanes (planesFrom request index neighbours) ++ drop (6 * index) scratch₀) × (firstBad badPlane index (fromOn request count index neighbours) ≡ firstBad badPlane 0 (planesFrom request count neighbours))
 
 abbrev μ-loop : tie.MeasureT-loop
 μ-loop scratch₀ request neighbours count index₀ scratch index = count - index
-
-no-place : {place : ℕ} → At place ≡ Nothing → ⊥
-no-place e = let z : _≡_ {A = ℕ} 0 1 = cc in omega arith
 
 finite-is : (c : tie.After-is-finite-plane Inv-loop μ-loop)
     → let at = c .before .before .before in
@@ -36,7 +36,7 @@ finite-is c = sym (c .is-finite-plane .ensures ∙ ap finitePlane (c .before .pl
 
 loop-holds : tie.Need-loop-holds Inv-loop μ-loop
 unfolding planesFrom numbersOfPlanes
-loop-holds c = (omega arith, refl, refl, ap (firstPlane 0) (from-all (c .before .before .args .request) (length (now (c .before .before .args .neighbours)) / 8) (now (c .before .before .args .neighbours))))
+loop-holds c = (omega arith, refl, refl, ap (firstBad badPlane 0) (from-all (c .before .before .args .request) (length (now (c .before .before .args .neighbours)) / 8) (now (c .before .before .args .neighbours))))
 
 plane-of-requires : tie.Need-plane-of-requires Inv-loop μ-loop
 plane-of-requires c κs = omega arith
@@ -54,7 +54,7 @@ returns c =
     record {
       same-length = at .loop .inv .1;
       found = sym (found-here (start .args .request) _ (at .loop .index) (now (start .args .neighbours)) (c .before .before .before .loop-test .taken) (finite-is (c .before) ∙ not-true _ (c .if1 .taken))) ∙ at .loop .inv .3;
-      stands = λ e. absurd (no-place e);
+      stands = λ e. no-place (sym e);
     }
 
 write-plane-requires : tie.Need-write-plane-requires Inv-loop μ-loop

@@ -2,9 +2,12 @@ use mathlib.Core.Path.{_≡_, sym, ap, _∙_}
 use Prim.Native.Nat.{ℕ}
 use lib.ListN.{length, length-map}
 use borrow.Author.Needs.{needs}
+use Rattle.refusals.specs.Verdict.{_⊳_}
+use Rattle.refusals.proofs.Verdicts.{both-passed}
+use Rattle.records.specs.Checks.{recordVerdict}
 use Rattle.fleet.specs.Table.{agents, shut, room, addVerdict, addCall}
 use Rattle.fleet.proofs.Agents.{agents-length}
-use Rattle.fleet.proofs.Verdicts.{first-passed, next-passed, room-passed, settled-refused, settled-passed}
+use Rattle.fleet.proofs.Verdicts.{room-passed, settled-refused, settled-passed}
 use Rattle.fleet.proofs.Fleet.add.Statement.{statement}
 use Rattle.fleet.proofs.Fleet.add.Tie as tie
 
@@ -21,7 +24,7 @@ refused-requires : tie.Need-refused-requires
 refused-requires c κs = search needs
 
 counted : (c : tie.After-in-range) → c .in-range .result ≡ length (agents (c .before .args .self))
-counted c = c .in-range .ensures ∙ sym (agents-length (c .before .args .self) (simp length-map at (c .before .good .0 .1 .1 .1 .0 .1 .0 .1)))
+counted c = c .in-range .ensures ∙ sym (agents-length (c .before .args .self) (simp length-map at (c .before .good .0 .1 .1 .0 .1 .1 .1 .0 .1 .0 .1)))
 
 -- the verdict on the fleet as it stands
 verdict-is : (c : tie.After-add-verdict)
@@ -47,7 +50,7 @@ added-requires c κs =
     let called = c .before .before in
     let start = called .before .before in
     let count = length (agents (start .args .self)) in
-    room-passed count (first-passed (room count) _ (next-passed (shut (start .args .self .tick)) _ (verdict-is called ∙ c .enum-told .given .1)))
+    room-passed count (both-passed (room count) (recordVerdict 0 (record { words = start .args .words })) (both-passed (shut (start .args .self .tick)) ((room count) ⊳ recordVerdict 0 (record { words = start .args .words })) (verdict-is called ∙ c .enum-told .given .1) .1) .0)
 
 done-requires : tie.Need-done-requires
 done-requires c κs = search needs

@@ -1,9 +1,7 @@
 use mathlib.Core.Path.{ap, _∙_}
-use Rattle.fleet.specs.declared.Fleet.{Fleet}
-use Rattle.fleet.specs.declared.Verdict.the-variants.{Passed}
-use Rattle.fleet.specs.Table.{agents, settled}
+use Rattle.fleet.specs.Table.{agents}
 use Rattle.fleet.specs.Tick.{opened, dropCall}
-use Rattle.fleet.proofs.Settled.{refused-is, done-is}
+use Rattle.fleet.proofs.Verdicts.{settled-refused, settled-passed}
 use borrow.Author.Needs.{needs}
 use Rattle.fleet.proofs.Fleet.drop.Statement.{statement}
 use Rattle.fleet.proofs.Fleet.drop.Tie as tie
@@ -19,7 +17,7 @@ refused-requires c κs = search needs
 
 returns : tie.Need-returns
 unfolding dropCall opened
-returns c = c .refused .ensures ∙ refused-is _ _ _ _ (ap opened (c .before .enum-told2 .given .1))
+returns c = c .refused .ensures ∙ settled-refused _ _ (ap opened (c .before .enum-told2 .given .1))
 
 ended-requires : tie.Need-ended-requires
 ended-requires c κs = search needs
@@ -30,7 +28,7 @@ done-requires c κs = search needs
 returns-2 : tie.Need-returns-2
 unfolding dropCall opened agents
 returns-2 c =
-    c .done .ensures ∙ ap (λ (next : Fleet). settled Passed next next) (c .before .ended .ensures) ∙ done-is _ _ _ (ap opened (c .before .before .before .enum-told .given .1))
+    c .done .ensures ∙ settled-passed _ (c .before .ended .ensures) (ap opened (c .before .before .before .enum-told .given .1))
 
 pub drop-spec : {M : Type 1} → statement M
 drop-spec =

@@ -1,30 +1,14 @@
-use mathlib.Core.Path.{_≡_, refl, sym, ap, _∙_}
-use mathlib.Core.Bool.{Bool, true, false, cond}
-use Prim.Native.Nat.{ℕ, _<_}
-use native.Mathlib.Omega.{arith}
-use lib.Dec.{ltb}
+-- `goal` hands back what its verdict says, and sets the goal of an agent that is there.
+use mathlib.Core.Path.{_≡_, sym, ap, _∙_}
+use Prim.Native.Nat.{ℕ}
 use lib.ListN.{length}
-use borrow.Author.Tests.{ltb-true}
-use Rattle.vectors.specs.declared.Vec3.{Vec3}
-use Rattle.fleet.specs.declared.Refusal.the-variants.{NoAgent, NotFinite}
-use Rattle.fleet.specs.declared.Verdict.the-variants.{Passed, Refused}
-use Rattle.fleet.specs.declared.Fleet.{Fleet}
-use Rattle.fleet.specs.Answer.{_⊳_, refusedAt}
-use Rattle.fleet.specs.Table.{agents, settled}
-use Rattle.fleet.specs.Tick.{goalFault, goalVerdict, goalCall}
-use Rattle.fleet.proofs.Settled.{refused-is, done-is}
+use Rattle.fleet.specs.Table.{agents}
+use Rattle.fleet.specs.Tick.{goalVerdict, goalCall}
+use Rattle.fleet.proofs.Verdicts.{settled-refused, settled-passed}
+use Rattle.fleet.proofs.HeldGoals.{fit-index}
 use borrow.Author.Needs.{needs}
 use Rattle.fleet.proofs.Fleet.goal.Statement.{statement}
 use Rattle.fleet.proofs.Fleet.goal.Tie as tie
-
--- a goal that passed is for an agent that is there
-there : (count index : ℕ) (goal : Vec3) → goalVerdict count index goal ≡ Passed → index < count
-unfolding goalVerdict _⊳_
-there count index goal passed = ltb-true index count (go (ltb index count) passed)
-  where
-    go : (b : Bool) → (cond b Passed (Refused (NoAgent index)) ⊳ refusedAt (goalFault goal) NotFinite) ≡ Passed → b ≡ true
-    go true e = refl
-    go false e = let z : _≡_ {A = ℕ} 0 1 = cc in absurd (omega arith)
 
 judged-is : (c : tie.After-goal-verdict)
     → let start = c .before .before in
@@ -47,13 +31,13 @@ refused-requires c κs = search needs
 
 returns : tie.Need-returns
 unfolding goalCall
-returns c = c .refused .ensures ∙ refused-is _ _ _ _ (judged-is (c .before .before .before .before) ∙ c .before .before .refusal .given .1)
+returns c = c .refused .ensures ∙ settled-refused _ _ (judged-is (c .before .before .before .before) ∙ c .before .before .refusal .given .1)
 
 enum-told : tie.Need-enum-told
 enum-told c = search needs
 
 goal-set-requires : tie.Need-goal-set-requires
-goal-set-requires c κs = there _ _ _ (judged-is (c .before .before) ∙ c .enum-told .given .1)
+goal-set-requires c κs = fit-index _ _ _ (judged-is (c .before .before) ∙ c .enum-told .given .1)
 
 done-requires : tie.Need-done-requires
 done-requires c κs = search needs
@@ -62,7 +46,7 @@ returns-2 : tie.Need-returns-2
 unfolding goalCall
 returns-2 c =
     let told = c .before .before in
-    c .done .ensures ∙ ap (λ (next : Fleet). settled Passed next next) (c .before .goal-set .ensures) ∙ done-is _ _ _ (judged-is (told .before .before) ∙ told .enum-told .given .1)
+    c .done .ensures ∙ settled-passed _ (c .before .goal-set .ensures) (judged-is (told .before .before) ∙ told .enum-told .given .1)
 
 pub goal-spec : {M : Type 1} → statement M
 goal-spec =

@@ -1,9 +1,6 @@
 use mathlib.Core.Path.{sym, ap, _∙_}
-use Rattle.fleet.specs.declared.Fleet.{Fleet}
-use Rattle.fleet.specs.declared.Verdict.the-variants.{Passed}
-use Rattle.fleet.specs.Table.{settled}
 use Rattle.fleet.specs.Tick.{openCall}
-use Rattle.fleet.proofs.Settled.{refused-is, done-is}
+use Rattle.fleet.proofs.Verdicts.{settled-refused, settled-passed}
 use borrow.Author.Needs.{needs}
 use Rattle.fleet.proofs.Fleet.open.Statement.{statement}
 use Rattle.fleet.proofs.Fleet.open.Tie as tie
@@ -19,7 +16,7 @@ refused-requires c κs = search needs
 
 returns : tie.Need-returns
 unfolding openCall
-returns c = c .refused .ensures ∙ refused-is _ _ _ _ (sym (c .before .before .before .before .open-verdict .ensures) ∙ c .before .before .refusal .given .1)
+returns c = c .refused .ensures ∙ settled-refused _ _ (sym (c .before .before .before .before .open-verdict .ensures) ∙ c .before .before .refusal .given .1)
 
 enum-told : tie.Need-enum-told
 enum-told c = search needs
@@ -34,7 +31,7 @@ returns-2 : tie.Need-returns-2
 unfolding openCall
 returns-2 c =
     let told = c .before .before in
-    c .done .ensures ∙ ap (λ (next : Fleet). settled Passed next next) (c .before .with-tick .ensures) ∙ done-is _ _ _ (sym (told .before .before .open-verdict .ensures) ∙ told .enum-told .given .1)
+    c .done .ensures ∙ settled-passed _ (c .before .with-tick .ensures) (sym (told .before .before .open-verdict .ensures) ∙ told .enum-told .given .1)
 
 pub open-spec : {M : Type 1} → statement M
 open-spec =

@@ -2,9 +2,11 @@ use mathlib.Core.Path.{_≡_, sym, ap, _∙_}
 use Prim.Native.Nat.{ℕ}
 use lib.ListN.{length, length-map}
 use borrow.Author.Needs.{needs}
+use Rattle.refusals.proofs.Verdicts.{both-passed}
+use Rattle.records.specs.Checks.{indexAmong}
 use Rattle.fleet.specs.Table.{agents, shut, removeVerdict, removeCall}
 use Rattle.fleet.proofs.Agents.{agents-length}
-use Rattle.fleet.proofs.Verdicts.{next-passed, among-passed, settled-refused, settled-passed}
+use Rattle.fleet.proofs.Verdicts.{among-passed, settled-refused, settled-passed}
 use Rattle.fleet.proofs.Fleet.remove.Statement.{statement}
 use Rattle.fleet.proofs.Fleet.remove.Tie as tie
 
@@ -21,7 +23,7 @@ refused-requires : tie.Need-refused-requires
 refused-requires c κs = search needs
 
 counted : (c : tie.After-in-range) → c .in-range .result ≡ length (agents (c .before .args .self))
-counted c = c .in-range .ensures ∙ sym (agents-length (c .before .args .self) (simp length-map at (c .before .good .0 .1 .1 .1 .0 .1 .0 .1)))
+counted c = c .in-range .ensures ∙ sym (agents-length (c .before .args .self) (simp length-map at (c .before .good .0 .1 .1 .0 .1 .1 .1 .0 .1 .0 .1)))
 
 -- the verdict on the fleet as it stands
 verdict-is : (c : tie.After-remove-verdict)
@@ -47,7 +49,7 @@ removed-requires c κs =
     let called = c .before .before in
     let start = called .before .before in
     let count = length (agents (start .args .self)) in
-    among-passed count (start .args .index) (next-passed (shut (start .args .self .tick)) _ (verdict-is called ∙ c .enum-told .given .1))
+    among-passed count (start .args .index) (both-passed (shut (start .args .self .tick)) (indexAmong count (start .args .index)) (verdict-is called ∙ c .enum-told .given .1) .1)
 
 done-requires : tie.Need-done-requires
 done-requires c κs = search needs

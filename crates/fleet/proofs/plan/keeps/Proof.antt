@@ -3,11 +3,11 @@ use borrow.Author.Needs.{needs}
 use Rattle.fleet.proofs.plan.keeps.Statement.{statement}
 use Rattle.fleet.proofs.plan.keeps.Tie as tie
 
-vector-requires : tie.Need-vector-requires
-vector-requires c κs = search needs
+position-requires : tie.Need-position-requires
+position-requires c κs = search needs
 
-vector-requires-2 : tie.Need-vector-requires-2
-vector-requires-2 c κs = search needs
+position-requires-2 : tie.Need-position-requires-2
+position-requires-2 c κs = search needs
 
 distance-squared-requires : tie.Need-distance-squared-requires
 distance-squared-requires c κs = search needs
@@ -25,20 +25,20 @@ returns : tie.Need-returns
 unfolding keeps
 returns c =
     let asked = c .before .before in
-    simp (c .enum-told .given .1, ← asked .before .before .before .vector .ensures, ← asked .before .before .vector2 .ensures, ← asked .before .distance-squared .ensures, ← asked .query-distance .ensures)
+    simp (c .enum-told .given .1, ← asked .before .before .before .position .ensures, ← asked .before .before .position2 .ensures, ← asked .before .distance-squared .ensures, ← asked .query-distance .ensures)
 
 returns-2 : tie.Need-returns-2
 unfolding keeps
 returns-2 c =
     let asked = c .before .before in
-    simp (c .enum-told2 .given .1, ← asked .before .before .before .vector .ensures, ← asked .before .before .vector2 .ensures, ← asked .before .distance-squared .ensures, ← asked .query-distance .ensures)
+    simp (c .enum-told2 .given .1, ← asked .before .before .before .position .ensures, ← asked .before .before .position2 .ensures, ← asked .before .distance-squared .ensures, ← asked .query-distance .ensures)
 
 pub keeps-spec : {M : Type 1} → statement M
 keeps-spec =
     tie.close
     (tie.spec
-    vector-requires
-    vector-requires-2
+    position-requires
+    position-requires-2
     distance-squared-requires
     query-distance-requires
     enum-told

@@ -7,9 +7,9 @@ use lib.ListN.{length, take, getD, length-take}
 use lib.Seq.{getD-take}
 use borrow.Author.Tests.{eq-eqb, ne-eqb}
 use Rattle.fleet.specs.declared.plan.Neighbours.{Neighbours}
-use Rattle.fleet.specs.Record.{blank}
-use Rattle.fleet.specs.Plan.{keeps, numbersOf}
-use Rattle.fleet.specs.Neighbours.{withNeighbour}
+use Rattle.records.specs.Record.{blank}
+use Rattle.fleet.specs.Plan.{keeps, neighbourNumbers}
+use Rattle.fleet.specs.parts.Plan.{withNeighbour}
 use Rattle.fleet.proofs.Lists.{getD-there}
 use Rattle.fleet.proofs.Kept.{wanted, Kept, skipped, added, all-kept}
 use borrow.Author.Needs.{needs}
@@ -17,13 +17,13 @@ use Rattle.fleet.proofs.plan.neighbours_of.Statement.{statement}
 use Rattle.fleet.proofs.plan.neighbours_of.Tie as tie
 
 abbrev Inv-loop : tie.InvT-loop
-Inv-loop rule own index count records kept₀ at₀ kept at = (at ≤ count) × Kept rule own index (take count records) at kept
+Inv-loop rule own index count records kept₀ at₀ neighbourIndices at = (at ≤ count) × Kept rule own index (take count records) at neighbourIndices
 
 abbrev μ-loop : tie.MeasureT-loop
-μ-loop rule own index count records kept₀ at₀ kept at = count - at
+μ-loop rule own index count records kept₀ at₀ neighbourIndices at = count - at
 
 loop-holds : tie.Need-loop-holds Inv-loop μ-loop
-unfolding numbersOf
+unfolding neighbourNumbers
 loop-holds c = (omega arith, record { few = omega arith; room = refl; wide = refl; indexed = refl; numbered = refl })
 
 mul-other : tie.Need-mul-other Inv-loop μ-loop

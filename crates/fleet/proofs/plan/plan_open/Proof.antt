@@ -6,10 +6,10 @@ use lib.Dec.{ltb}
 use lib.ListN.{length}
 use denote.Ref.{now}
 use borrow.Author.Tests.{lt-ltb, le-ltb}
-use Rattle.fleet.specs.declared.Verdict.the-variants.{Passed}
-use Rattle.fleet.specs.declared.Record.{Record}
-use Rattle.fleet.specs.Table.{agents, settled, agentAt}
-use Rattle.fleet.specs.Plan.{replyFor, scratchFor, answeredBy, planOpen, scratchOf, scratchOpen}
+use Rattle.refusals.specs.declared.Verdict.the-variants.{Passed}
+use Rattle.records.specs.declared.Record.{Record}
+use Rattle.fleet.specs.Table.{agents, settled, hasAgent}
+use Rattle.fleet.specs.Plan.{replyFor, replyScratch, answeredBy, planOpen, scratchOf, scratchOpen}
 use Rattle.fleet.proofs.Agents.{agents-are}
 use borrow.Author.Needs.{needs}
 use Rattle.fleet.proofs.plan.plan_open.Statement.{statement}
@@ -22,7 +22,7 @@ refused-requires : tie.Need-refused-requires
 refused-requires c κs = search needs
 
 returns : tie.Need-returns
-unfolding planOpen answeredBy scratchOpen scratchOf settled agentAt
+unfolding planOpen answeredBy scratchOpen scratchOf settled hasAgent
 returns c =
     let counted = c .before .before in
     let start = counted .before .before in
@@ -41,7 +41,7 @@ same-length : tie.Need-same-length
 same-length c = search needs
 
 returns-2 : tie.Need-returns-2
-unfolding planOpen answeredBy scratchOpen scratchOf agentAt
+unfolding planOpen answeredBy scratchOpen scratchOf hasAgent
 returns-2 c =
     let replied = c .before .before .before in
     let room = replied .before .before .before in
@@ -52,7 +52,7 @@ returns-2 c =
     let some : ltb index (length (agents fleet)) ≡ true = lt-ltb _ _ (rw (counted .agent-count .ensures .0) at (room .if1 .left)) in
     let are = agents-are fleet (counted .agent-count .result) (counted .agent-count .ensures .0) in (
       rw some (c .answered .ensures ∙ ap (answeredBy Passed fleet index) (replied .reply-for .ensures .0 ∙ ap (λ (rs : List Record). replyFor (start .args .time-step) (start .args .rule) rs index (length (now (start .args .scratch)))) are)),
-      rw some (replied .reply-for .ensures .1 ∙ ap (λ (rs : List Record). scratchFor (start .args .time-step) (start .args .rule) rs index (now (start .args .scratch))) are),
+      rw some (replied .reply-for .ensures .1 ∙ ap (λ (rs : List Record). replyScratch (start .args .time-step) (start .args .rule) rs index (now (start .args .scratch))) are),
     )
 
 pub plan-open-spec : {M : Type 1} → statement M

@@ -1,3 +1,4 @@
+-- The velocity call is asked what the definition asks, on the neighbours that the walk found, and names them by their table indices.
 use mathlib.Core.Path.{_≡_, sym, _∙_}
 use mathlib.Core.List.{List}
 use Prim.Native.Nat.{ℕ, _*_, _≤_, _<_}
@@ -5,13 +6,14 @@ use native.Mathlib.Omega.{arith}
 use lib.Ieee.{Float}
 use lib.ListN.{length, take, length-map}
 use lib.Seq.{getD-take, length-take-le}
-use Rattle.avoidance.specs.declared.checks.Request.{Request}
-use Rattle.avoidance.specs.declared.velocity.Reply.{Reply}
+use Rattle.avoidance.specs.declared.Request.{Request}
+use Rattle.avoidance.specs.declared.Reply.{Reply}
+use Rattle.avoidance.specs.Reply.{renamed}
 use Rattle.avoidance.specs.Velocity.{velocityCall, scratchAfter}
-use Rattle.fleet.specs.declared.Record.{Record}
+use Rattle.records.specs.Record.{blank}
+use Rattle.fleet.specs.Plan.{keptFrom, neighbourNumbers, requestFor, standing, neighbourIndices, neighboursOf, replyFor, replyScratch}
+use Rattle.records.specs.declared.Record.{Record}
 use Rattle.fleet.specs.declared.Rule.{Rule}
-use Rattle.fleet.specs.Record.{blank}
-use Rattle.fleet.specs.Plan.{keptFrom, numbersOf, requestFor, standing, kept, neighboursOf, byIndex, replyFor, scratchFor}
 use Rattle.fleet.proofs.Lists.{getD-there}
 use borrow.Author.Needs.{needs}
 use Rattle.fleet.proofs.plan.reply_for.Statement.{statement}
@@ -19,13 +21,13 @@ use Rattle.fleet.proofs.plan.reply_for.Tie as tie
 
 -- what is asked of the velocity call is what the definition asks
 module _ (timeStep : Float) (rule : Rule) (rs : List Record) (index : ℕ) (own : Record) (request : Request) (js : List ℕ) (numbers : List Float)
-    (own-is : own ≡ standing rs index) (request-is : request ≡ requestFor own timeStep) (js-are : js ≡ keptFrom rule own index 0 rs) (numbers-are : numbers ≡ numbersOf rs (keptFrom rule own index 0 rs)) where
-  replied : (answer : Reply) (room : ℕ) → answer ≡ velocityCall request numbers room → byIndex js answer ≡ replyFor timeStep rule rs index room
-  unfolding replyFor kept neighboursOf
+    (own-is : own ≡ standing rs index) (request-is : request ≡ requestFor own timeStep) (js-are : js ≡ keptFrom rule own index 0 rs) (numbers-are : numbers ≡ neighbourNumbers rs (keptFrom rule own index 0 rs)) where
+  replied : (answer : Reply) (room : ℕ) → answer ≡ velocityCall request numbers room → renamed js answer ≡ replyFor timeStep rule rs index room
+  unfolding replyFor neighbourIndices neighboursOf
   replied answer room is = rw (is, request-is, js-are, numbers-are, own-is)
 
-  left : (scratch : List Float) → scratchAfter request numbers scratch ≡ scratchFor timeStep rule rs index scratch
-  unfolding scratchFor kept neighboursOf
+  left : (scratch : List Float) → scratchAfter request numbers scratch ≡ replyScratch timeStep rule rs index scratch
+  unfolding replyScratch neighbourIndices neighboursOf
   left scratch = rw (request-is, numbers-are, own-is)
 
 fits : (c : tie.After-neighbours-of) → 8 * c .neighbours-of .result .count ≤ length (c .neighbours-of .result .numbers)
@@ -43,38 +45,57 @@ neighbours-of-requires : tie.Need-neighbours-of-requires
 neighbours-of-requires c κs = search needs
 
 mul-length : tie.Need-mul-length
-mul-length c = omega (arith, c .before .before .neighbours-of .ensures .within)
+mul-length c = omega (arith, c .before .neighbours-of .ensures .within)
 
 request-for-requires : tie.Need-request-for-requires
 request-for-requires c κs = search needs
 
 array-share-prefix-numbers : tie.Need-array-share-prefix-numbers
-array-share-prefix-numbers c = fits (c .before .before .before)
+array-share-prefix-numbers c = fits (c .before .before)
 
 slice-aggregate-velocity : tie.Need-slice-aggregate-velocity
-slice-aggregate-velocity c = sym (length-take-le _ _ (fits (c .before .before .before .before)))
+slice-aggregate-velocity c = sym (length-take-le _ _ (fits (c .before .before .before)))
 
 velocity-requires : tie.Need-velocity-requires
 velocity-requires c κs = search needs
 
-by-index-requires : tie.Need-by-index-requires
-by-index-requires c κs = c .before .before .before .before .before .before .before .before .before .neighbours-of .ensures .within
+-- where the neighbours were found, seen from where their indices are
+found-in : tie.After-indices → tie.After-neighbours-of
+found-in c = c .before .before .before .before .before .before .before .before
+
+indices-fit : (c : tie.After-indices) → found-in c .neighbours-of .result .count ≤ length (found-in c .neighbours-of .result .indices)
+unfolding found-in
+indices-fit c =
+    let found = found-in c in
+    let all : length (found .neighbours-of .result .indices) ≡ 64 = simp length-map at (found .neighbours-of .ok .1 .1 .1 .1 .0 .1 .0 .1) in
+    omega (arith, found .neighbours-of .ensures .within)
+
+array-share-prefix-indices : tie.Need-array-share-prefix-indices
+unfolding found-in
+array-share-prefix-indices c = indices-fit c
+
+slice-aggregate-renamed : tie.Need-slice-aggregate-renamed
+unfolding found-in
+slice-aggregate-renamed c = sym (length-take-le _ _ (indices-fit (c .before)))
+
+renamed-requires : tie.Need-renamed-requires
+renamed-requires c κs = search needs
 
 same-length : tie.Need-same-length
 same-length c = search needs
 
 returns : tie.Need-returns
 returns c =
-    let called = c .before .before .before .before in
+    let called = c .before .before .before .before .before in
     let asked = called .before .before .before in
-    let found = asked .before .before .before in
+    let found = asked .before .before in
     let start = found .before .before .before in
     let count = start .args .count in
     let index = start .args .index in
     let stored : index < length (start .args .t3) = rw (start .good .1 .1 .0 .1 .0 .1) (omega (arith, start .pre .0, start .pre .1)) in
     let own-is = getD-there (start .args .t3) index _ blank stored ∙ sym (getD-take count (start .args .t3) index blank (start .pre .1)) in
     let lists = found .neighbours-of .ensures in (
-      c .by-index .ensures ∙ replied (start .args .time-step) (start .args .rule) (take count (start .args .t3)) index _ _ _ _ own-is (asked .request-for .ensures) (lists .indexed) (lists .numbered) _ _ (called .velocity .ensures .0),
+      c .renamed .ensures ∙ replied (start .args .time-step) (start .args .rule) (take count (start .args .t3)) index _ _ _ _ own-is (asked .request-for .ensures) (lists .indexed) (lists .numbered) _ _ (called .velocity .ensures .0),
       called .velocity .ensures .1 ∙ left (start .args .time-step) (start .args .rule) (take count (start .args .t3)) index _ _ _ _ own-is (asked .request-for .ensures) (lists .indexed) (lists .numbered) _,
     )
 
@@ -90,6 +111,8 @@ reply-for-spec =
     array-share-prefix-numbers
     slice-aggregate-velocity
     velocity-requires
-    by-index-requires
+    array-share-prefix-indices
+    slice-aggregate-renamed
+    renamed-requires
     same-length
     returns)

@@ -1,23 +1,18 @@
+-- Eight stores, one after another.
 use mathlib.Core.Path.{_≡_}
 use Prim.Native.Nat.{suc, _+_}
 use native.Mathlib.Numerals.{add-one}
 use native.Mathlib.Omega.{arith}
-use Rattle.fleet.specs.Plan.{agentNumbers}
+use Rattle.avoidance.proofs.AgentNumbers.{numbers-are}
 use borrow.Author.Needs.{needs}
 use Rattle.fleet.proofs.plan.write_agent.Statement.{statement}
 use Rattle.fleet.proofs.plan.write_agent.Tie as tie
-
-number-requires : tie.Need-number-requires
-number-requires c κs = search needs
 
 mul-numbers : tie.Need-mul-numbers
 mul-numbers c = search needs
 
 element-write-numbers : tie.Need-element-write-numbers
 element-write-numbers c = search needs
-
-number-requires-2 : tie.Need-number-requires-2
-number-requires-2 c κs = search needs
 
 add-numbers : tie.Need-add-numbers
 add-numbers c = search needs
@@ -28,9 +23,6 @@ mul-numbers-2 c = search needs
 element-write-numbers-2 : tie.Need-element-write-numbers-2
 element-write-numbers-2 c = search needs
 
-number-requires-3 : tie.Need-number-requires-3
-number-requires-3 c κs = search needs
-
 add-numbers-2 : tie.Need-add-numbers-2
 add-numbers-2 c = search needs
 
@@ -39,9 +31,6 @@ mul-numbers-3 c = search needs
 
 element-write-numbers-3 : tie.Need-element-write-numbers-3
 element-write-numbers-3 c = search needs
-
-number-requires-4 : tie.Need-number-requires-4
-number-requires-4 c κs = search needs
 
 add-numbers-3 : tie.Need-add-numbers-3
 add-numbers-3 c = search needs
@@ -52,9 +41,6 @@ mul-numbers-4 c = search needs
 element-write-numbers-4 : tie.Need-element-write-numbers-4
 element-write-numbers-4 c = search needs
 
-number-requires-5 : tie.Need-number-requires-5
-number-requires-5 c κs = search needs
-
 add-numbers-4 : tie.Need-add-numbers-4
 add-numbers-4 c = search needs
 
@@ -63,9 +49,6 @@ mul-numbers-5 c = search needs
 
 element-write-numbers-5 : tie.Need-element-write-numbers-5
 element-write-numbers-5 c = search needs
-
-number-requires-6 : tie.Need-number-requires-6
-number-requires-6 c κs = search needs
 
 add-numbers-5 : tie.Need-add-numbers-5
 add-numbers-5 c = search needs
@@ -76,9 +59,6 @@ mul-numbers-6 c = search needs
 element-write-numbers-6 : tie.Need-element-write-numbers-6
 element-write-numbers-6 c = search needs
 
-number-requires-7 : tie.Need-number-requires-7
-number-requires-7 c κs = search needs
-
 add-numbers-6 : tie.Need-add-numbers-6
 add-numbers-6 c = search needs
 
@@ -87,9 +67,6 @@ mul-numbers-7 c = search needs
 
 element-write-numbers-7 : tie.Need-element-write-numbers-7
 element-write-numbers-7 c = search needs
-
-number-requires-8 : tie.Need-number-requires-8
-number-requires-8 c κs = search needs
 
 add-numbers-7 : tie.Need-add-numbers-7
 add-numbers-7 c = search needs
@@ -101,49 +78,40 @@ element-write-numbers-8 : tie.Need-element-write-numbers-8
 element-write-numbers-8 c = search needs
 
 returns : tie.Need-returns
-unfolding agentNumbers
 returns c =
-    let at = c .before .before .before .before .before .before .before .before .args .at in
+    let at = c .args .at in
     let e2 : at + 2 ≡ suc (suc at) = omega arith in
     let e3 : at + 3 ≡ suc (suc (suc at)) = omega arith in
     let e4 : at + 4 ≡ suc (suc (suc (suc at))) = omega arith in
     let e5 : at + 5 ≡ suc (suc (suc (suc (suc at)))) = omega arith in
     let e6 : at + 6 ≡ suc (suc (suc (suc (suc (suc at))))) = omega arith in
     let e7 : at + 7 ≡ suc (suc (suc (suc (suc (suc (suc at)))))) = omega arith in
-    simp (← c .before .before .before .before .before .before .before .number .ensures, ← c .before .before .before .before .before .before .number2 .ensures, ← c .before .before .before .before .before .number3 .ensures, ← c .before .before .before .before .number4 .ensures, ← c .before .before .before .number5 .ensures, ← c .before .before .number6 .ensures, ← c .before .number7 .ensures, ← c .number8 .ensures) (rw (add-one at, e2, e3, e4, e5, e6, e7))
+    rw (numbers-are (c .args .agent), add-one at, e2, e3, e4, e5, e6, e7)
 
 pub write-agent-spec : {M : Type 1} → statement M
 write-agent-spec =
     tie.close
     (tie.spec
-    number-requires
     mul-numbers
     element-write-numbers
-    number-requires-2
     add-numbers
     mul-numbers-2
     element-write-numbers-2
-    number-requires-3
     add-numbers-2
     mul-numbers-3
     element-write-numbers-3
-    number-requires-4
     add-numbers-3
     mul-numbers-4
     element-write-numbers-4
-    number-requires-5
     add-numbers-4
     mul-numbers-5
     element-write-numbers-5
-    number-requires-6
     add-numbers-5
     mul-numbers-6
     element-write-numbers-6
-    number-requires-7
     add-numbers-6
     mul-numbers-7
     element-write-numbers-7
-    number-requires-8
     add-numbers-7
     mul-numbers-8
     element-write-numbers-8

@@ -2,7 +2,7 @@ use mathlib.Core.Path.{_≡_, refl, sym, _∙_}
 use Prim.Native.Nat.{_-_}
 use lib.ListN.{length, length-set}
 use borrow.Author.Needs.{needs}
-use Rattle.fleet.specs.Record.{blank}
+use Rattle.records.specs.Record.{blank}
 use Rattle.fleet.proofs.Lists.{filled, filled-step, filled-end}
 use Rattle.fleet.proofs.table.blanked.Statement.{statement}
 use Rattle.fleet.proofs.table.blanked.Tie as tie

@@ -1,6 +1,6 @@
 use borrow.Author.Tests.{lt-ltb, le-ltb}
 use borrow.Author.Needs.{needs}
-use Rattle.fleet.specs.Answer.{_⊳_}
+use Rattle.refusals.specs.Verdict.{_⊳_}
 use Rattle.fleet.specs.Table.{shut, putVerdict}
 use Rattle.fleet.proofs.table.put_verdict.Statement.{statement}
 use Rattle.fleet.proofs.table.put_verdict.Tie as tie
@@ -12,20 +12,20 @@ enum-told-2 : tie.Need-enum-told-2
 enum-told-2 c = search needs
 
 returns : tie.Need-returns
-unfolding putVerdict shut _⊳_
+unfolding putVerdict shut
 returns c = simp (c .enum-told2 .given .1)
 
 returns-2 : tie.Need-returns-2
-unfolding putVerdict shut _⊳_
+unfolding putVerdict shut
 returns-2 c = simp (c .before .enum-told .given .1, le-ltb _ _ (c .if1 .taken))
 
-record-verdict-requires : tie.Need-record-verdict-requires
-record-verdict-requires c κs = search needs
+verdict-requires : tie.Need-verdict-requires
+verdict-requires c κs = search needs
 
 returns-3 : tie.Need-returns-3
-unfolding putVerdict shut _⊳_
-returns-3 c = simp (c .before .before .enum-told .given .1, lt-ltb _ _ (c .before .if1 .left), ← c .record-verdict .ensures)
+unfolding putVerdict shut
+returns-3 c = simp (c .before .before .enum-told .given .1, lt-ltb _ _ (c .before .if1 .left), ← c .verdict .ensures)
 
 pub put-verdict-spec : {M : Type 1} → statement M
 put-verdict-spec =
-    tie.close (tie.spec enum-told enum-told-2 returns returns-2 record-verdict-requires returns-3)
+    tie.close (tie.spec enum-told enum-told-2 returns returns-2 verdict-requires returns-3)

@@ -1,6 +1,6 @@
 use borrow.Author.Tests.{lt-ltb, le-ltb}
 use borrow.Author.Needs.{needs}
-use Rattle.fleet.specs.Answer.{_⊳_}
+use Rattle.refusals.specs.Verdict.{_⊳_}
 use Rattle.fleet.specs.Table.{shut, removeVerdict}
 use Rattle.fleet.proofs.table.remove_verdict.Statement.{statement}
 use Rattle.fleet.proofs.table.remove_verdict.Tie as tie
@@ -12,15 +12,15 @@ enum-told-2 : tie.Need-enum-told-2
 enum-told-2 c = search needs
 
 returns : tie.Need-returns
-unfolding removeVerdict shut _⊳_
+unfolding removeVerdict shut
 returns c = simp (c .enum-told2 .given .1)
 
 returns-2 : tie.Need-returns-2
-unfolding removeVerdict shut _⊳_
+unfolding removeVerdict shut
 returns-2 c = simp (c .before .enum-told .given .1, le-ltb _ _ (c .if1 .taken))
 
 returns-3 : tie.Need-returns-3
-unfolding removeVerdict shut _⊳_
+unfolding removeVerdict shut
 returns-3 c = simp (c .before .enum-told .given .1, lt-ltb _ _ (c .if1 .left))
 
 pub remove-verdict-spec : {M : Type 1} → statement M

@@ -6,8 +6,8 @@ use native.Mathlib.Omega.{arith}
 use lib.ListN.{length, take, drop, length-set, drop-of-length-le}
 use lib.Seq.{drop-cons, set-split}
 use borrow.Author.Needs.{needs}
-use Rattle.fleet.specs.declared.Record.{Record}
-use Rattle.fleet.specs.Record.{blank}
+use Rattle.records.specs.declared.Record.{Record}
+use Rattle.records.specs.Record.{blank}
 use Rattle.fleet.proofs.Lists.{written-step}
 use Rattle.fleet.proofs.table.without.Statement.{statement}
 use Rattle.fleet.proofs.table.without.Tie as tie
@@ -81,13 +81,13 @@ returns c =
     let there : 63 < length out = omega (arith, at .loop .inv .1) in
     let full : length out ≤ 64 = omega (arith, at .loop .inv .1) in
     let none : length rs ≤ 64 = omega arith in
-    let kept : take 63 out ≡ around (start .args .index) rs rs =
+    let before : take 63 out ≡ around (start .args .index) rs rs =
     sym (ap (λ (rest : List Record). take 63 out ++ rest) (drop-of-length-le rs none) ∙ append-nil (take 63 out))
     ∙ ap (λ (n : ℕ). around n out rs) (sym last)
     ∙ at .loop .inv .2 in
     set-split out 63 (c .blank .result) there
     ∙ ap (λ (rest : List Record). take 63 out ++ c .blank .result ∷ rest) (drop-of-length-le out full)
-    ∙ rw (c .blank .ensures, kept)
+    ∙ rw (c .blank .ensures, before)
 
 pub without-spec : {M : Type 1} → statement M
 without-spec =

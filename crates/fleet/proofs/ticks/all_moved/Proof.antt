@@ -2,16 +2,16 @@ use mathlib.Core.Path.{_≡_, refl, sym, _∙_}
 use Prim.Native.Nat.{_-_, _<_, _≤_}
 use lib.ListN.{length, length-set}
 use lib.Ieee.{Float}
-use Rattle.fleet.specs.declared.Record.{Record}
+use Rattle.records.specs.declared.Record.{Record}
 use Rattle.fleet.specs.declared.Slot.{Slot}
-use Rattle.fleet.specs.Tick.{each, moved, allMoved}
+use Rattle.fleet.specs.Tick.{each, movedBy, allMoved}
 use Rattle.fleet.proofs.Each.{soFar, each-step, each-end}
 use borrow.Author.Needs.{needs}
 use Rattle.fleet.proofs.ticks.all_moved.Statement.{statement}
 use Rattle.fleet.proofs.ticks.all_moved.Tie as tie
 
 abbrev moves : Float → Record → Slot → Record
-moves timeStep r plan = moved timeStep r (plan .held)
+moves timeStep r plan = movedBy timeStep r (plan .held)
 
 abbrev Inv-loop : tie.InvT-loop
 Inv-loop timeStep records slots out₀ index₀ out index = (length out ≡ 64) × (soFar (moves timeStep) index out records slots ≡ each (moves timeStep) records slots)
@@ -22,20 +22,20 @@ abbrev μ-loop : tie.MeasureT-loop
 loop-holds : tie.Need-loop-holds Inv-loop μ-loop
 loop-holds c = (c .good .1 .0 .1 .0 .1, refl)
 
-mul-moved : tie.Need-mul-moved Inv-loop μ-loop
-mul-moved c = search needs
+mul-moved-by : tie.Need-mul-moved-by Inv-loop μ-loop
+mul-moved-by c = search needs
 
-array-copy-out-moved : tie.Need-array-copy-out-moved Inv-loop μ-loop
-array-copy-out-moved c = search needs
+array-copy-out-moved-by : tie.Need-array-copy-out-moved-by Inv-loop μ-loop
+array-copy-out-moved-by c = search needs
 
-mul-moved-2 : tie.Need-mul-moved-2 Inv-loop μ-loop
-mul-moved-2 c = search needs
+mul-moved-by-2 : tie.Need-mul-moved-by-2 Inv-loop μ-loop
+mul-moved-by-2 c = search needs
 
-array-copy-out-moved-2 : tie.Need-array-copy-out-moved-2 Inv-loop μ-loop
-array-copy-out-moved-2 c = search needs
+array-copy-out-moved-by-2 : tie.Need-array-copy-out-moved-by-2 Inv-loop μ-loop
+array-copy-out-moved-by-2 c = search needs
 
-moved-requires : tie.Need-moved-requires Inv-loop μ-loop
-moved-requires c κs = search needs
+moved-by-requires : tie.Need-moved-by-requires Inv-loop μ-loop
+moved-by-requires c κs = search needs
 
 mul-out : tie.Need-mul-out Inv-loop μ-loop
 mul-out c = search needs
@@ -60,7 +60,7 @@ loop-again c =
     let stored : i < length records = rw (start .good .1 .0 .1 .0 .1) inside in
     let held : i < length slots = rw (start .good .1 .1 .0 .1 .0 .1) inside in
     let stands : i < length (at .loop .out) = rw (at .loop .inv .0) inside in
-    rw (c .moved .ensures) (
+    rw (c .moved-by .ensures) (
       length-set (at .loop .out) i _ ∙ at .loop .inv .0,
       each-step (moves (start .args .time-step)) i (at .loop .out) records slots _ _ stands stored held ∙ at .loop .inv .1,
     )
@@ -82,11 +82,11 @@ all-moved-spec =
     Inv-loop
     μ-loop
     loop-holds
-    mul-moved
-    array-copy-out-moved
-    mul-moved-2
-    array-copy-out-moved-2
-    moved-requires
+    mul-moved-by
+    array-copy-out-moved-by
+    mul-moved-by-2
+    array-copy-out-moved-by-2
+    moved-by-requires
     mul-out
     array-set-from-out
     add-index

@@ -3,8 +3,8 @@ use borrow.Author.Needs.{needs}
 use Rattle.fleet.proofs.ticks.arrival.Statement.{statement}
 use Rattle.fleet.proofs.ticks.arrival.Tie as tie
 
-vector-requires : tie.Need-vector-requires
-vector-requires c κs = search needs
+position-requires : tie.Need-position-requires
+position-requires c κs = search needs
 
 enum-told : tie.Need-enum-told
 enum-told c = search needs
@@ -20,17 +20,17 @@ add-requires c κs = search needs
 
 returns : tie.Need-returns
 unfolding arrival
-returns c = simp (c .enum-told .given .1, ← c .before .before .vector .ensures)
+returns c = simp (c .enum-told .given .1, ← c .before .before .position .ensures)
 
 returns-2 : tie.Need-returns-2
 unfolding arrival
-returns-2 c = simp (c .before .before .before .held .given .1, ← c .before .before .before .before .before .vector .ensures, ← c .before .mul .ensures, ← c .add .ensures)
+returns-2 c = simp (c .before .before .before .held .given .1, ← c .before .before .before .before .before .position .ensures, ← c .before .mul .ensures, ← c .add .ensures)
 
 pub arrival-spec : {M : Type 1} → statement M
 arrival-spec =
     tie.close
     (tie.spec
-    vector-requires
+    position-requires
     enum-told
     enum-known-held
     mul-requires

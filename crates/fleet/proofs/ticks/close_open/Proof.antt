@@ -3,22 +3,20 @@ use mathlib.Core.List.{List}
 use Prim.Native.Nat.{ℕ}
 use lib.Ieee.{Float}
 use lib.ListN.{take}
-use Rattle.fleet.specs.declared.Record.{Record}
+use Rattle.records.specs.declared.Record.{Record}
 use Rattle.fleet.specs.declared.Slot.{Slot}
-use Rattle.fleet.specs.declared.Fleet.{Fleet}
-use Rattle.fleet.specs.declared.Verdict.the-variants.{Passed}
-use Rattle.fleet.specs.Table.{agents, settled}
-use Rattle.fleet.specs.Tick.{moved, allMoved, closeVerdict, ended, closeOpen}
+use Rattle.fleet.specs.Table.{agents}
+use Rattle.fleet.specs.Tick.{movedBy, allMoved, closeVerdict, ended, closeOpen}
 use Rattle.fleet.proofs.Agents.{agents-are}
 use Rattle.fleet.proofs.Each.{each-take}
-use Rattle.fleet.proofs.Settled.{refused-is, done-is}
+use Rattle.fleet.proofs.Verdicts.{settled-refused, settled-passed}
 use borrow.Author.Needs.{needs}
 use Rattle.fleet.proofs.ticks.close_open.Statement.{statement}
 use Rattle.fleet.proofs.ticks.close_open.Tie as tie
 
 moved-are : (timeStep : Float) (count : ℕ) (rs : List Record) (plans : List Slot) → take count (allMoved timeStep rs plans) ≡ allMoved timeStep (take count rs) plans
 unfolding allMoved
-moved-are timeStep count rs plans = each-take (λ (r : Record) (plan : Slot). moved timeStep r (plan .held)) count rs plans
+moved-are timeStep count rs plans = each-take (λ (r : Record) (plan : Slot). movedBy timeStep r (plan .held)) count rs plans
 
 -- the verdict on the agents
 judged-is : (c : tie.After-close-verdict)
@@ -43,7 +41,7 @@ refused-requires c κs = search needs
 
 returns : tie.Need-returns
 unfolding closeOpen
-returns c = c .refused .ensures ∙ refused-is _ _ _ _ (judged-is (c .before .before .before .before) ∙ c .before .before .refusal .given .1)
+returns c = c .refused .ensures ∙ settled-refused _ _ (judged-is (c .before .before .before .before) ∙ c .before .before .refusal .given .1)
 
 enum-told : tie.Need-enum-told
 enum-told c = search needs
@@ -63,11 +61,10 @@ returns-2 c =
     let judged = c .before .before .before .before .before in
     let start = judged .before .before .before .before in
     let fleet = start .args .fleet in
-    let moved-on : take (fleet .count) (c .before .before .all-moved .result) ≡ allMoved (start .args .time-step) (agents fleet) (fleet .plans) =
-    ap (take (fleet .count)) (c .before .before .all-moved .ensures) ∙ moved-are (start .args .time-step) (fleet .count) (fleet .records) (fleet .plans) in
+    let moved-on : take (fleet .standing .count) (c .before .before .all-moved .result) ≡ allMoved (start .args .time-step) (agents fleet) (fleet .plans) =
+    ap (take (fleet .standing .count)) (c .before .before .all-moved .ensures) ∙ moved-are (start .args .time-step) (fleet .standing .count) (fleet .standing .records) (fleet .plans) in
     c .done .ensures
-    ∙ ap (λ (next : Fleet). settled Passed next next) (c .before .ended .ensures ∙ ap (λ (rs : List Record). ended rs (fleet .goals)) moved-on)
-    ∙ done-is _ _ _ (judged-is judged ∙ c .before .before .before .enum-told .given .1)
+    ∙ settled-passed _ (c .before .ended .ensures ∙ ap (λ (rs : List Record). ended rs (fleet .goals)) moved-on) (judged-is judged ∙ c .before .before .before .enum-told .given .1)
 
 pub close-open-spec : {M : Type 1} → statement M
 close-open-spec =

@@ -2,7 +2,7 @@ use mathlib.Core.Path.{_≡_, sym, _∙_}
 use Prim.Native.Nat.{_≤_}
 use lib.ListN.{length, take}
 use lib.Seq.{length-take-le}
-use Rattle.fleet.specs.Answer.{_⊳_, refusedAt}
+use Rattle.refusals.specs.Verdict.{_⊳_, refusedAt}
 use Rattle.fleet.specs.Tick.{closeVerdict}
 use borrow.Author.Needs.{needs}
 use Rattle.fleet.proofs.ticks.close_verdict.Statement.{statement}
@@ -20,7 +20,7 @@ enum-known-agent : tie.Need-enum-known-agent
 enum-known-agent c = search needs
 
 returns : tie.Need-returns
-unfolding closeVerdict _⊳_ refusedAt
+unfolding closeVerdict
 returns c =
     let unplanned = c .before .before .before in
     rw (many (unplanned .before), sym (unplanned .first-unplanned .ensures) ∙ c .before .agent .given .1)
@@ -35,7 +35,7 @@ enum-known-agent-2 : tie.Need-enum-known-agent-2
 enum-known-agent-2 c = search needs
 
 returns-2 : tie.Need-returns-2
-unfolding closeVerdict _⊳_ refusedAt
+unfolding closeVerdict
 returns-2 c =
     let astray = c .before .before .before in
     let unplanned = astray .before .before .before in
@@ -45,7 +45,7 @@ enum-told-2 : tie.Need-enum-told-2
 enum-told-2 c = search needs
 
 returns-3 : tie.Need-returns-3
-unfolding closeVerdict _⊳_ refusedAt
+unfolding closeVerdict
 returns-3 c =
     let astray = c .before .before in
     let unplanned = astray .before .before .before in

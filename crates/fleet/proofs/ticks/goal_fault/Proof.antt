@@ -14,12 +14,18 @@ returns c = simp (← c .before .is-finite .ensures, not-true (c .before .is-fin
 is-finite-requires-2 : tie.Need-is-finite-requires-2
 is-finite-requires-2 c κs = search needs
 
+add-t4 : tie.Need-add-t4
+add-t4 c = search needs
+
 returns-2 : tie.Need-returns-2
 unfolding goalFault
 returns-2 c = simp (← c .before .before .before .is-finite .ensures, not-false (c .before .before .before .is-finite .result) (c .before .before .if1 .left), ← c .before .is-finite2 .ensures, not-true (c .before .is-finite2 .result) (c .if2 .taken))
 
 is-finite-requires-3 : tie.Need-is-finite-requires-3
 is-finite-requires-3 c κs = search needs
+
+add-t7 : tie.Need-add-t7
+add-t7 c = search needs
 
 returns-3 : tie.Need-returns-3
 unfolding goalFault
@@ -36,7 +42,9 @@ goal-fault-spec =
     is-finite-requires
     returns
     is-finite-requires-2
+    add-t4
     returns-2
     is-finite-requires-3
+    add-t7
     returns-3
     returns-4)

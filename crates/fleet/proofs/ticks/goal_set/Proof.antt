@@ -16,15 +16,15 @@ enum-told-2 c = search needs
 hold-goal-requires : tie.Need-hold-goal-requires
 hold-goal-requires c κs =
     let start = c .before .before in
-    let all : length (start .args .fleet .records) ≡ 64 = simp length-map at (start .good .0 .1 .1 .1 .0 .1 .0 .1) in
+    let all : length (start .args .fleet .standing .records) ≡ 64 = simp length-map at (start .good .0 .1 .1 .0 .1 .1 .1 .0 .1 .0 .1) in
     omega (arith, start .pre, agents-within (start .args .fleet) all)
 
 returns : tie.Need-returns
 unfolding goalSet
 returns c = simp (c .before .enum-told2 .given .1, ← c .hold-goal .ensures)
 
-standing-requires : tie.Need-standing-requires
-standing-requires c κs = search needs
+record-at-requires : tie.Need-record-at-requires
+record-at-requires c κs = search needs
 
 with-goal-requires : tie.Need-with-goal-requires
 with-goal-requires c κs = search needs
@@ -34,7 +34,7 @@ with-record-requires c κs = search needs
 
 returns-2 : tie.Need-returns-2
 unfolding goalSet
-returns-2 c = simp (c .before .before .before .enum-told .given .1, ← c .before .before .standing .ensures, ← c .before .with-goal .ensures, ← c .with-record .ensures)
+returns-2 c = simp (c .before .before .before .enum-told .given .1, ← c .before .before .record-at .ensures, ← c .before .with-goal .ensures, ← c .with-record .ensures)
 
 pub goal-set-spec : {M : Type 1} → statement M
 goal-set-spec =
@@ -44,7 +44,7 @@ goal-set-spec =
     enum-told-2
     hold-goal-requires
     returns
-    standing-requires
+    record-at-requires
     with-goal-requires
     with-record-requires
     returns-2)

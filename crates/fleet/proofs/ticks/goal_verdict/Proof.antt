@@ -1,13 +1,13 @@
 use mathlib.Core.Path.{sym, _∙_}
 use borrow.Author.Tests.{lt-ltb, le-ltb}
-use Rattle.fleet.specs.Answer.{_⊳_, refusedAt}
+use Rattle.refusals.specs.Verdict.{_⊳_, refusedAt}
 use Rattle.fleet.specs.Tick.{goalVerdict}
 use borrow.Author.Needs.{needs}
 use Rattle.fleet.proofs.ticks.goal_verdict.Statement.{statement}
 use Rattle.fleet.proofs.ticks.goal_verdict.Tie as tie
 
 returns : tie.Need-returns
-unfolding goalVerdict _⊳_
+unfolding goalVerdict
 returns c = rw (le-ltb _ _ (c .if1 .taken))
 
 goal-fault-requires : tie.Need-goal-fault-requires
@@ -17,7 +17,7 @@ enum-known-place : tie.Need-enum-known-place
 enum-known-place c = search needs
 
 returns-2 : tie.Need-returns-2
-unfolding goalVerdict _⊳_ refusedAt
+unfolding goalVerdict
 returns-2 c =
     let checked = c .before .before .before in
     rw (lt-ltb _ _ (checked .before .if1 .left), sym (checked .goal-fault .ensures) ∙ c .before .place .given .1)
@@ -26,7 +26,7 @@ enum-told : tie.Need-enum-told
 enum-told c = search needs
 
 returns-3 : tie.Need-returns-3
-unfolding goalVerdict _⊳_ refusedAt
+unfolding goalVerdict
 returns-3 c =
     let checked = c .before .before in
     rw (lt-ltb _ _ (checked .before .if1 .left), sym (checked .goal-fault .ensures) ∙ c .enum-told .given .1)

@@ -1,7 +1,7 @@
 use mathlib.Core.Path.{_≡_, refl, sym, _∙_}
 use Prim.Native.Nat.{_-_, _<_, _≤_}
 use lib.ListN.{length, length-set}
-use Rattle.fleet.specs.declared.Record.{Record}
+use Rattle.records.specs.declared.Record.{Record}
 use Rattle.fleet.specs.declared.Slot.{Slot}
 use Rattle.fleet.specs.Tick.{each, goalTaken, goalsTaken}
 use Rattle.fleet.proofs.Each.{soFar, each-step, each-end}

@@ -1,4 +1,4 @@
-use Rattle.fleet.specs.Answer.{_⊳_}
+use Rattle.refusals.specs.Verdict.{_⊳_}
 use Rattle.fleet.specs.Table.{shut}
 use Rattle.fleet.specs.Tick.{openVerdict}
 use borrow.Author.Needs.{needs}
@@ -12,14 +12,14 @@ enum-told-2 : tie.Need-enum-told-2
 enum-told-2 c = search needs
 
 returns : tie.Need-returns
-unfolding openVerdict shut _⊳_
+unfolding openVerdict shut
 returns c = simp (c .enum-told2 .given .1)
 
 step-verdict-requires : tie.Need-step-verdict-requires
 step-verdict-requires c κs = search needs
 
 returns-2 : tie.Need-returns-2
-unfolding openVerdict shut _⊳_
+unfolding openVerdict shut
 returns-2 c = simp (c .before .enum-told .given .1, ← c .step-verdict .ensures)
 
 pub open-verdict-spec : {M : Type 1} → statement M

@@ -3,12 +3,12 @@ use borrow.Author.Needs.{needs}
 use Rattle.fleet.proofs.ticks.with_tick.Statement.{statement}
 use Rattle.fleet.proofs.ticks.with_tick.Tie as tie
 
-in-tick-requires : tie.Need-in-tick-requires
-in-tick-requires c κs = search needs
+holding-nothing-requires : tie.Need-holding-nothing-requires
+holding-nothing-requires c κs = search needs
 
 returns : tie.Need-returns
 unfolding agents
-returns c = c .in-tick .ensures
+returns c = c .holding-nothing .ensures
 
 pub with-tick-spec : {M : Type 1} → statement M
-with-tick-spec = tie.close (tie.spec in-tick-requires returns)
+with-tick-spec = tie.close (tie.spec holding-nothing-requires returns)

@@ -1,3 +1,4 @@
+-- `along_line` is infeasible where the discriminant is below 0, and else the best on what `cut_all` leaves: one case for each return, with the calls' contracts put into the definition.
 use borrow.Author.Needs.{needs}
 use Rattle.solver.specs.AlongLine.{alongLine, bestOn}
 use Rattle.solver.proofs.along_line.along_line.Statement.{statement}

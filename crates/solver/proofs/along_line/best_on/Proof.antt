@@ -1,3 +1,4 @@
+-- `best_on` takes the end that a direction points to, or clamps a point's time: one case for each side of the test and for each answer of `clamp`.
 use borrow.Author.Needs.{needs}
 use Rattle.solver.specs.AlongLine.{bestOn, atClamped}
 use Rattle.solver.proofs.along_line.best_on.Statement.{statement}

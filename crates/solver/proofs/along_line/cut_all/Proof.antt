@@ -1,3 +1,4 @@
+-- `cut_all` cuts by every plane in turn: its loop keeps what the planes left make of the present bounds, and a line that is shut stays shut.
 use mathlib.Core.Path.{_≡_, refl, sym, ap, _∙_}
 use mathlib.Core.List.{List}
 use Prim.Native.Nat.{ℕ, _+_, _-_, _/_, _≤_}
@@ -5,11 +6,11 @@ use native.Mathlib.Omega.{arith}
 use borrow.Author.Needs.{needs}
 use denote.Ref.{now}
 use lib.ListN.{length}
-use Rattle.solver.specs.declared.plane.Plane.{Plane}
-use Rattle.solver.specs.declared.plane.Line.{Line}
+use Rattle.solver.specs.declared.Plane.{Plane}
+use Rattle.solver.specs.declared.Line.{Line}
 use Rattle.solver.specs.declared.along_line.Cut.{Cut}
 use Rattle.solver.specs.declared.along_line.Cut.the-variants.{Open, Shut}
-use Rattle.solver.specs.Plane.{planesIn}
+use Rattle.solver.specs.Lent.{planesIn}
 use Rattle.solver.specs.AlongLine.{cutAll, cutBy}
 use Rattle.solver.proofs.Planes.{remaining, begin, turn, leave, end}
 use Rattle.solver.proofs.along_line.cut_all.Statement.{statement}

@@ -1,3 +1,4 @@
+-- `cut_by` answers what one constraint leaves: case by case as the definition branches.
 use borrow.Author.Needs.{needs}
 use Rattle.solver.specs.AlongLine.{cutBy}
 use Rattle.solver.proofs.along_line.cut_by.Statement.{statement}

@@ -1,3 +1,4 @@
+-- `open_or` is shut exactly where left > right: one case for each side of the test.
 use Rattle.solver.specs.AlongLine.{openOr}
 use Rattle.solver.proofs.along_line.open_or.Statement.{statement}
 use Rattle.solver.proofs.along_line.open_or.Tie as tie

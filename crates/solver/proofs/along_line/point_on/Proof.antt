@@ -1,3 +1,4 @@
+-- `point_on` is the definition's sum: the contract of `add`, with the product that `mul` ensures in it.
 use Rattle.vectors.specs.Vec3.{_+ᵥ_}
 use Rattle.vectors.specs.declared.Vec3.{Vec3}
 use borrow.Author.Needs.{needs}

@@ -1,11 +1,12 @@
+-- `along_plane` meets the constraints in turn: its loop keeps what those left make of the best value, and the failure that ends it early is one that no later constraint changes.
 use mathlib.Core.Path.{_≡_, _∙_}
 use Prim.Native.Nat.{_+_, _-_, _/_, _≤_}
 use native.Mathlib.Omega.{arith}
 use denote.Ref.{now}
 use lib.ListN.{length}
 use borrow.Author.Needs.{needs}
-use Rattle.solver.specs.declared.plane.Answer.the-variants.{Value}
-use Rattle.solver.specs.Plane.{planesIn}
+use Rattle.solver.specs.declared.OnPlane.the-variants.{Value}
+use Rattle.solver.specs.Lent.{planesIn}
 use Rattle.solver.specs.AlongPlane.{alongPlane, byConstraint}
 use Rattle.solver.proofs.Planes.{remaining, begin, turn, leave, end}
 use Rattle.solver.proofs.LeftOver.{answer-kept}

@@ -1,17 +1,42 @@
-use mathlib.Core.Path.{_≡_, sym}
-use mathlib.Core.List.{List}
-use Prim.Native.Nat.{ℕ, _*_, _/_, _≤_, _<_}
-use native.Mathlib.Omega.{arith}
+-- `by_constraint` answers what the constraint leaves: past both tests that is the line's answer as the plane's, whose three cases are told apart one after another.
+use mathlib.Core.Path.{_≡_, refl, sym, ap, _∙_}
+use mathlib.Core.List.{[], _∷_}
+use Prim.Native.Nat.{_*_}
+use denote.Enum.Declared
 use denote.Ref.{now}
-use lib.Ieee.{Float}
-use lib.ListN.{length, take}
+use types.Run.{OneOf, miss}
+use lib.ListN.{drop}
 use lib.Seq.{length-take-le}
 use borrow.Author.Needs.{needs}
-use Rattle.solver.specs.Plane.{planesIn, planesOf}
-use Rattle.solver.specs.AlongPlane.{byConstraint, byLine}
+use Rattle.solver.specs.declared.OnLine.{OnLine}
+use Rattle.solver.specs.declared.OnLine.the-variants as onLine
+use Rattle.solver.specs.declared.OnPlane.the-variants.{Value, Infeasible}
+use Rattle.solver.specs.Lent.{planeAt, planesOf}
+use Rattle.solver.specs.AlongPlane.{fromLine, byLine, byConstraint}
 use Rattle.solver.proofs.Planes.{room, passed-lent}
+use Rattle.solver.proofs.OnLine as OnLine'
 use Rattle.solver.proofs.along_plane.by_constraint.Statement.{statement}
 use Rattle.solver.proofs.along_plane.by_constraint.Tie as tie
+
+-- past both tests the definition's answer is the line's
+on-line : (c : tie.After-along-line)
+    → let start = c .before .before .before .before .before .before .before .before .before .before in
+    let xs = now (start .args .planes) in
+    byConstraint (start .args .plane) (start .args .radius) (start .args .optimum) (planesOf (start .args .index) xs) (planeAt (drop (6 * start .args .index) xs)) (Value (start .args .best))
+    ≡ fromLine (c .along-line .result)
+unfolding byConstraint byLine
+on-line c =
+    let b3 = c .before .before .before in
+    let b6 = b3 .before .before .before in
+    let start = b6 .before .before .before .before in
+    simp (← passed-lent (start .args .index) (now (start .args .planes)) (start .pre), ← b6 .before .before .plane-at .ensures, ← b6 .before .signed-distance .ensures, b6 .if1 .left, ← b3 .before .before .cross .ensures, ← b3 .before .dot .ensures, b3 .if2 .left, ← c .before .before .line-on .ensures, ← c .along-line .ensures)
+
+-- neither a bad clamp nor a value
+no-value : (a : OnLine) → OneOf (0 ∷ 1 ∷ []) (Declared.tagOf OnLine'.the-type a) → OneOf (1 ∷ 2 ∷ []) (Declared.tagOf OnLine'.the-type a) → fromLine a ≡ Infeasible
+unfolding fromLine
+no-value (onLine.Value v) j k = absurd (miss (1 ∷ 2 ∷ []) 0 tt k)
+no-value onLine.Infeasible j k = refl
+no-value onLine.BadClamp j k = absurd (miss (0 ∷ 1 ∷ []) 2 tt j)
 
 plane-at-requires : tie.Need-plane-at-requires
 plane-at-requires c κs = search needs
@@ -49,24 +74,24 @@ slice-aggregate-along-line c =
 along-line-requires : tie.Need-along-line-requires
 along-line-requires c κs = search needs
 
+enum-told : tie.Need-enum-told
+enum-told c = search needs
+
+returns-3 : tie.Need-returns-3
+unfolding fromLine
+returns-3 c = sym (on-line (c .before .before) ∙ ap fromLine (c .enum-told .given .1))
+
 enum-known-answer : tie.Need-enum-known-answer
 enum-known-answer c = search needs
 
-returns-3 : tie.Need-returns-3
-unfolding byConstraint byLine
-returns-3 c =
-    let b3 = c .before .before .before in
-    let b6 = b3 .before .before .before in
-    let b9 = b6 .before .before .before in
-    simp (← passed-lent (b9 .before .before .args .index) (now (b9 .before .before .args .planes)) (b9 .before .before .pre), ← b9 .plane-at .ensures, ← b6 .before .before .signed-distance .ensures, b6 .before .if1 .left, ← b6 .cross .ensures, ← b3 .before .before .dot .ensures, b3 .before .if2 .left, ← b3 .line-on .ensures, ← c .before .along-line .ensures)
-
 returns-4 : tie.Need-returns-4
-unfolding byConstraint byLine
 returns-4 c =
-    let b3 = c .before .before .before in
-    let b6 = b3 .before .before .before in
-    let b9 = b6 .before .before .before in
-    simp (← passed-lent (b9 .before .before .before .before .args .index) (now (b9 .before .before .before .before .args .planes)) (b9 .before .before .before .before .pre), ← b9 .before .before .plane-at .ensures, ← b9 .before .signed-distance .ensures, b9 .if1 .left, ← b6 .before .before .cross .ensures, ← b6 .before .dot .ensures, b6 .if2 .left, ← b3 .before .before .line-on .ensures, ← b3 .along-line .ensures, c .before .answer .given .1)
+    let called = c .before .before in
+    sym (on-line called ∙ no-value (called .along-line .result) (c .before .match .keys2) (c .match2 .keys2))
+
+returns-5 : tie.Need-returns-5
+unfolding fromLine
+returns-5 c = sym (on-line (c .before .before .before .before) ∙ ap fromLine (c .before .answer .given .1))
 
 pub by-constraint-spec : {M : Type 1} → statement M
 by-constraint-spec =
@@ -82,6 +107,8 @@ by-constraint-spec =
     line-on-requires
     slice-aggregate-along-line
     along-line-requires
-    enum-known-answer
+    enum-told
     returns-3
-    returns-4)
+    enum-known-answer
+    returns-4
+    returns-5)

@@ -1,3 +1,4 @@
+-- `line_on` builds the definition's line: each of its six calls ensures one term of it.
 use borrow.Author.Needs.{needs}
 use Rattle.solver.specs.AlongPlane.{lineOn}
 use Rattle.solver.proofs.along_plane.line_on.Statement.{statement}

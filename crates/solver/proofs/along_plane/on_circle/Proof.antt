@@ -1,3 +1,4 @@
+-- `on_circle` goes from the center along `way`: `root`, `mul` and `add` ensure the definition from the inside out.
 use borrow.Author.Needs.{needs}
 use Rattle.solver.specs.AlongPlane.{onCircle}
 use Rattle.solver.proofs.along_plane.on_circle.Statement.{statement}

@@ -1,5 +1,6 @@
+-- `start_on` starts in the definition's circle: for a direction and for a point, each side of the test gives the definition's value.
 use borrow.Author.Needs.{needs}
-use Rattle.solver.specs.AlongPlane.{startOn}
+use Rattle.solver.specs.AlongPlane.{startInCircle, startOn}
 use Rattle.solver.proofs.along_plane.start_on.Statement.{statement}
 use Rattle.solver.proofs.along_plane.start_on.Tie as tie
 
@@ -49,14 +50,14 @@ on-circle-requires-2 : tie.Need-on-circle-requires-2
 on-circle-requires-2 c κs = search needs
 
 returns : tie.Need-returns
-unfolding startOn
+unfolding startOn startInCircle
 returns c =
     let b3 = c .before .before .before in
     let b6 = b3 .before .before .before in
     simp (← b6 .before .before .mul .ensures, b6 .optimum .given .1, ← b3 .before .dot .ensures, ← b3 .mul2 .ensures, ← c .before .before .sub .ensures, ← c .before .dot2 .ensures, c .if1 .taken)
 
 returns-2 : tie.Need-returns-2
-unfolding startOn
+unfolding startOn startInCircle
 returns-2 c =
     let b3 = c .before .before .before in
     let b6 = b3 .before .before .before in
@@ -64,7 +65,7 @@ returns-2 c =
     simp (← b9 .mul .ensures, b6 .before .optimum .given .1, ← b3 .before .before .dot .ensures, ← b3 .before .mul2 .ensures, ← b3 .sub .ensures, ← c .before .before .dot2 .ensures, c .before .if1 .left, ← c .on-circle .ensures)
 
 returns-3 : tie.Need-returns-3
-unfolding startOn
+unfolding startOn startInCircle
 returns-3 c =
     let b3 = c .before .before .before in
     let b6 = b3 .before .before .before in
@@ -72,7 +73,7 @@ returns-3 c =
     simp (← b9 .before .before .mul .ensures, b9 .optimum2 .given .1, ← b6 .before .signed-distance .ensures, ← b6 .mul3 .ensures, ← b3 .before .before .sub2 .ensures, ← b3 .before .dot3 .ensures, b3 .if2 .taken, ← c .before .before .sub3 .ensures, ← c .before .dot4 .ensures, ← c .on-circle2 .ensures)
 
 returns-4 : tie.Need-returns-4
-unfolding startOn
+unfolding startOn startInCircle
 returns-4 c =
     let b3 = c .before .before .before in
     let b6 = b3 .before .before .before in

@@ -1,3 +1,4 @@
+-- `four_d` relaxes by each plane from the failed one on: its loop keeps the planes as they were and what those left make of the state, and clearing the second half leaves `halfCleared`.
 use mathlib.Core.Path.{_≡_, refl, sym, ap, _∙_}
 use mathlib.Core.List.{List, _++_}
 use Prim.Native.Nat.{ℕ, _+_, _-_, _*_, _/_, _≤_, _<_}
@@ -8,11 +9,12 @@ use lib.Ieee.{Float}
 use lib.ListN.{length, take, drop, replicate}
 use borrow.Author.Needs.{needs}
 use Rattle.vectors.specs.Number.{zero}
-use Rattle.solver.specs.declared.plane.Plane.{Plane}
+use Rattle.solver.specs.declared.Plane.{Plane}
 use Rattle.solver.specs.declared.four_d.Relaxed.{Relaxed}
-use Rattle.solver.specs.Plane.{planeAt, planesOf, inTurn}
+use Rattle.solver.specs.Plane.{inTurn}
+use Rattle.solver.specs.Lent.{planeAt, planesOf}
 use Rattle.solver.specs.FourD.{relaxBy, fourD, halfCleared}
-use Rattle.solver.specs.FourDScratch.{Keeps}
+use Rattle.solver.specs.parts.FourD.{Keeps}
 use Rattle.solver.proofs.Planes.{remaining, begin-at, turn, end}
 use Rattle.solver.proofs.four_d.Scratch.{keeps-on, same-plane, same-planes, second-cleared, cleared-length}
 use Rattle.solver.proofs.four_d.four_d.Statement.{statement}

@@ -1,3 +1,4 @@
+-- `relax_by` keeps a state that is good enough, and else takes the inner program's: the part of the scratch lent to `three_d` holds the definition's turned planes.
 use mathlib.Core.Path.{_≡_, refl, sym, ap, _∙_}
 use mathlib.Core.List.{List}
 use Prim.Native.Nat.{_*_}
@@ -6,11 +7,11 @@ use denote.Ref.{now}
 use lib.Ieee.{Float, neg}
 use lib.ListN.{drop}
 use borrow.Author.Needs.{needs}
-use Rattle.solver.specs.declared.plane.Plane.{Plane}
-use Rattle.solver.specs.declared.plane.Optimum.the-variants.{Direction}
-use Rattle.solver.specs.declared.three_d.Outcome.{Outcome}
+use Rattle.solver.specs.declared.Plane.{Plane}
+use Rattle.solver.specs.declared.Optimum.the-variants.{Direction}
+use Rattle.solver.specs.declared.Outcome.{Outcome}
 use Rattle.solver.specs.declared.four_d.Relaxed.{Relaxed}
-use Rattle.solver.specs.Plane.{planeAt, planesOf}
+use Rattle.solver.specs.Lent.{planeAt, planesOf}
 use Rattle.solver.specs.ThreeD.{threeD}
 use Rattle.solver.specs.FourD.{turnedAll, relaxedTo, relaxBy}
 use Rattle.solver.proofs.four_d.Scratch.{part-lent}

@@ -1,13 +1,14 @@
+-- `turn_all` fills the second half: its loop keeps that the planes turned so far, and those still to turn, make the definition's list.
 use mathlib.Core.Path.{_≡_, refl, sym, ap, _∙_}
 use mathlib.Core.List.{List, _++_, append-nil}
 use Prim.Native.Nat.{_+_, _-_, _*_, _≤_}
 use native.Mathlib.Omega.{arith}
 use denote.Ref.{now}
 use lib.ListN.{drop}
-use Rattle.solver.specs.declared.plane.Plane.{Plane}
-use Rattle.solver.specs.Plane.{planeAt, planesOf}
+use Rattle.solver.specs.declared.Plane.{Plane}
+use Rattle.solver.specs.Lent.{planeAt, planesOf}
 use Rattle.solver.specs.FourD.{turnedAll}
-use Rattle.solver.specs.FourDScratch.{Keeps}
+use Rattle.solver.specs.parts.FourD.{Keeps}
 use Rattle.solver.proofs.Planes.{rest, rest-all, rest-none}
 use Rattle.solver.proofs.four_d.Scratch.{keeps-on, turn-on}
 use Rattle.solver.proofs.four_d.turn_all.Statement.{statement}

@@ -1,3 +1,4 @@
+-- `turn_by` tells parallel planes from those that cross: in each of its three cases the calls ensure the definition's plane, or there is none.
 use borrow.Author.Needs.{needs}
 use Rattle.solver.specs.FourD.{turnBy}
 use Rattle.solver.proofs.four_d.turn_by.Statement.{statement}

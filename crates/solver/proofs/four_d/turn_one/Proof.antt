@@ -1,3 +1,4 @@
+-- `turn_one` appends one plane at most: a kept one is written right after those turned before and changes no other number, and for one left out nothing is written.
 use mathlib.Core.Path.{_≡_, refl, sym, ap, _∙_, subst}
 use mathlib.Core.List.{List, [], _∷_, _++_, append-nil}
 use Prim.Native.Nat.{ℕ, _+_, _*_, _≤_, _<_}
@@ -7,12 +8,12 @@ use denote.Ref.{now}
 use lib.Ieee.{Float}
 use lib.ListN.{length, drop}
 use borrow.Author.Needs.{needs}
-use Rattle.solver.specs.declared.plane.Plane.{Plane}
+use Rattle.solver.specs.declared.Plane.{Plane}
 use Rattle.solver.specs.declared.four_d.Turned.{Turned}
 use Rattle.solver.specs.declared.four_d.Turned.the-variants.{Kept, LeftOut}
-use Rattle.solver.specs.Plane.{planeAt, planesOf, withPlane}
+use Rattle.solver.specs.Lent.{planeAt, planesOf, withPlane}
 use Rattle.solver.specs.FourD.{kept, turnBy}
-use Rattle.solver.specs.FourDScratch.{TurnedOne}
+use Rattle.solver.specs.parts.FourD.{TurnedOne}
 use Rattle.solver.proofs.Written.{written, written-length, written-before, written-after, with-room}
 use Rattle.solver.proofs.four_d.Scratch.{appended}
 use Rattle.solver.proofs.four_d.turn_one.Statement.{statement}

@@ -1,3 +1,4 @@
+-- `turned_plane` has the difference of the two normals, normalized: what `sub` and `normalize` ensure.
 use borrow.Author.Needs.{needs}
 use Rattle.solver.specs.FourD.{turnedPlane}
 use Rattle.solver.proofs.four_d.turned_plane.Statement.{statement}

@@ -1,3 +1,4 @@
+-- `value_of` hands an infeasible outcome to `four_d`, and else clears the second half itself: what both tests leave over is a bad clamp, whose value is zero.
 use mathlib.Core.Path.{_≡_, refl, sym, ap, _∙_}
 use mathlib.Core.List.{List, [], _∷_}
 use Prim.Native.Nat.{ℕ, _-_, _*_, _/_}
@@ -11,14 +12,14 @@ use lib.Ieee.{Float}
 use lib.ListN.{length, take, drop, replicate}
 use Rattle.vectors.specs.Number.{zero}
 use Rattle.vectors.specs.Vec3.{zeroVec}
-use Rattle.solver.specs.declared.plane.Plane.{Plane}
-use Rattle.solver.specs.declared.three_d.Outcome.{Outcome}
-use Rattle.solver.specs.declared.three_d.Outcome.the-variants.{Feasible, Infeasible, BadClamp}
-use Rattle.solver.specs.Plane.{planesOf}
+use Rattle.solver.specs.declared.Plane.{Plane}
+use Rattle.solver.specs.declared.Outcome.{Outcome}
+use Rattle.solver.specs.declared.Outcome.the-variants.{Feasible, Infeasible, BadClamp}
+use Rattle.solver.specs.Lent.{planesOf}
 use Rattle.solver.specs.FourD.{halfCleared}
 use Rattle.solver.specs.Solve.{valueOf}
 use Rattle.solver.proofs.four_d.Scratch.{second-cleared}
-use Rattle.solver.proofs.three_d.Outcome as Outcome'
+use Rattle.solver.proofs.Outcome as Outcome'
 use Rattle.solver.proofs.solve.value_of.Statement.{statement}
 use Rattle.solver.proofs.solve.value_of.Tie as tie
 

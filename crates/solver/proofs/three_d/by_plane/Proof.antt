@@ -1,8 +1,9 @@
+-- `by_plane` keeps a value on the plane's valid side, and else answers what `along_plane` makes of the planes passed: one case for each of its answers.
 use mathlib.Core.Path.{sym}
 use denote.Ref.{now}
 use lib.Seq.{length-take-le}
 use borrow.Author.Needs.{needs}
-use Rattle.solver.specs.ThreeD.{byPlane, onPlane}
+use Rattle.solver.specs.ThreeD.{byPlane, fromPlane}
 use Rattle.solver.proofs.Planes.{room, passed-lent, planes-length}
 use Rattle.solver.proofs.three_d.by_plane.Statement.{statement}
 use Rattle.solver.proofs.three_d.by_plane.Tie as tie
@@ -38,7 +39,7 @@ enum-told-2 : tie.Need-enum-told-2
 enum-told-2 c = search needs
 
 returns-2 : tie.Need-returns-2
-unfolding byPlane onPlane
+unfolding byPlane fromPlane
 returns-2 c =
     let b3 = c .before .before .before in
     let b6 = b3 .before .before .before in
@@ -46,7 +47,7 @@ returns-2 c =
     simp (← passed-lent (start .args .index) (now (start .args .planes)) (start .pre), ← b6 .before .plane-at .ensures, ← b6 .signed-distance .ensures, b3 .before .before .if1 .left, ← b3 .along-plane .ensures, c .before .value .given .1)
 
 returns-3 : tie.Need-returns-3
-unfolding byPlane onPlane
+unfolding byPlane fromPlane
 returns-3 c =
     let b3 = c .before .before .before in
     let b6 = b3 .before .before .before in
@@ -54,7 +55,7 @@ returns-3 c =
     simp (planes-length, ← passed-lent (start .args .index) (now (start .args .planes)) (start .pre), ← b6 .plane-at .ensures, ← b3 .before .before .signed-distance .ensures, b3 .before .if1 .left, ← c .before .before .along-plane .ensures, c .enum-told .given .1)
 
 returns-4 : tie.Need-returns-4
-unfolding byPlane onPlane
+unfolding byPlane fromPlane
 returns-4 c =
     let b3 = c .before .before .before in
     let b6 = b3 .before .before .before in

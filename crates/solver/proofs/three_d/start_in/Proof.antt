@@ -1,3 +1,4 @@
+-- `start_in` scales a direction, and moves a point back only from outside the sphere: one case for each return.
 use borrow.Author.Needs.{needs}
 use Rattle.solver.specs.ThreeD.{startIn}
 use Rattle.solver.proofs.three_d.start_in.Statement.{statement}

@@ -1,11 +1,12 @@
+-- `three_d` meets the planes in turn: its loop keeps what those left make of the best value, and the outcome that ends it early is one that no later plane changes.
 use mathlib.Core.Path.{_≡_, ap, _∙_}
 use Prim.Native.Nat.{_+_, _-_, _/_, _≤_}
 use native.Mathlib.Omega.{arith}
 use borrow.Author.Needs.{needs}
 use denote.Ref.{now}
 use lib.ListN.{length}
-use Rattle.solver.specs.declared.three_d.Outcome.the-variants.{Feasible}
-use Rattle.solver.specs.Plane.{planesIn}
+use Rattle.solver.specs.declared.Outcome.the-variants.{Feasible}
+use Rattle.solver.specs.Lent.{planesIn}
 use Rattle.solver.specs.ThreeD.{threeD, byPlane}
 use Rattle.solver.proofs.Planes.{remaining, begin, turn, leave, end}
 use Rattle.solver.proofs.LeftOver.{outcome-kept}

@@ -1,3 +1,4 @@
+-- The code's three sums are those of `_+ᵥ_`, component by component and with self on the left.
 use mathlib.Core.Path.{refl}
 use Rattle.vectors.specs.Vec3.{_+ᵥ_}
 use Rattle.vectors.proofs.Vec3.add.Statement.{statement}

@@ -1,3 +1,4 @@
+-- The six products and three differences of `cross` stand in the code with the same factors in the same order.
 use mathlib.Core.Path.{refl}
 use Rattle.vectors.specs.Vec3.{cross}
 use Rattle.vectors.proofs.Vec3.cross.Statement.{statement}

@@ -1,3 +1,4 @@
+-- `length_squared` speaks of the vector that `sub` returned, and `sub` ensures that it is u -ᵥ v.
 use mathlib.Core.Path.{ap, _∙_}
 use borrow.Author.Needs.{needs}
 use Rattle.vectors.specs.Vec3.{lengthSquared, distanceSquared}

@@ -1,3 +1,4 @@
+-- Three quotients by the same divisor, each rounded once: `_/ᵥ_` too takes no reciprocal first.
 use mathlib.Core.Path.{refl}
 use Rattle.vectors.specs.Vec3.{_/ᵥ_}
 use Rattle.vectors.proofs.Vec3.div.Statement.{statement}

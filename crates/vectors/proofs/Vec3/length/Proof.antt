@@ -1,3 +1,4 @@
+-- `root` is given what `dot` returned; with what `dot` ensures of that, this is root (dot v v).
 use mathlib.Core.Path.{ap, _∙_}
 use borrow.Author.Needs.{needs}
 use Rattle.vectors.specs.Root.{root}

@@ -1,3 +1,4 @@
+-- The one thing to rewrite is the divisor: the code has what `length` returned where the definition has length v.
 use mathlib.Core.Path.{ap}
 use lib.Ieee.{Float}
 use borrow.Author.Needs.{needs}

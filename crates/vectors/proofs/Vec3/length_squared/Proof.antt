@@ -1,3 +1,4 @@
+-- What `dot` ensures of the vector with itself is what `lengthSquared` unfolds to.
 use borrow.Author.Needs.{needs}
 use Rattle.vectors.specs.Vec3.{lengthSquared}
 use Rattle.vectors.proofs.Vec3.length_squared.Statement.{statement}

@@ -1,3 +1,4 @@
+-- Each component of `_*ᵥ_` is self's times the scalar, the factors in the order in which the code has them.
 use mathlib.Core.Path.{refl}
 use Rattle.vectors.specs.Vec3.{_*ᵥ_}
 use Rattle.vectors.proofs.Vec3.mul.Statement.{statement}

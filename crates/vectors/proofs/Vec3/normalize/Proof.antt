@@ -1,3 +1,4 @@
+-- `mul` ensures a product by the number that `length_recip` returned, and that number is lengthRecip v.
 use mathlib.Core.Path.{ap, _∙_}
 use lib.Ieee.{Float}
 use borrow.Author.Needs.{needs}

@@ -1,3 +1,4 @@
+-- The code tests in two steps what the definition tests in one by `&&`: each way out is the definition at the outcomes that led to it.
 use mathlib.Core.Path.{_≡_, refl, sym, _∙_}
 use mathlib.Core.Bool.{Bool, true, false, _&&_, cond}
 use lib.Ieee.{Float}

@@ -1,3 +1,4 @@
+-- `_-ᵥ_` unfolds to the record of three differences that the code builds, other's components taken from self's.
 use mathlib.Core.Path.{refl}
 use Rattle.vectors.specs.Vec3.{_-ᵥ_}
 use Rattle.vectors.proofs.Vec3.sub.Statement.{statement}

@@ -1,3 +1,4 @@
+-- The literal 0.0 is the float of pattern 0, which is the `zero` that `zeroVec` has three times.
 use mathlib.Core.Path.{refl}
 use Rattle.vectors.specs.Vec3.{zeroVec}
 use Rattle.vectors.proofs.Vec3.zero.Statement.{statement}

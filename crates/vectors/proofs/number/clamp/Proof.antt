@@ -1,3 +1,4 @@
+-- With the bounds in order the value is what the second test makes of the number that the first one raised; otherwise the definition has `BadBounds` as the code does.
 use mathlib.Core.Path.{_≡_, refl, sym, ap, _∙_}
 use mathlib.Core.Bool.{Bool, true, false, cond}
 use mathlib.Core.Logic.{⊎-elim}

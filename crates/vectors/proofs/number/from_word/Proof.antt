@@ -1,3 +1,4 @@
+-- A pattern that is above infinity's once the sign is dropped is read as `nan`, which is also 0 / 0; any other is no NaN's, as the machine's `from_bits` asks.
 use mathlib.Core.Path.{_≡_, refl, sym, _∙_, subst}
 use mathlib.Core.Bool.{Bool, true, false, not, false≢true}
 use Prim.Native.Nat.{ℕ, _%_, _<_, _≤_}

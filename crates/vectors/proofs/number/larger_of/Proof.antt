@@ -1,3 +1,4 @@
+-- Rust's `old != old` is the definition's `isNan old`, and `old < new` its other test: either gives the new number, and what is left the old one.
 use Rattle.vectors.specs.Number.{larger}
 use Rattle.vectors.proofs.NotANumber.{isNan-is}
 use Rattle.vectors.proofs.number.larger_of.Statement.{statement}

@@ -1,3 +1,4 @@
+-- The definition has the code's one test: where x equals 0 both are +0, and elsewhere both are x.
 use Rattle.vectors.specs.Number.{plusZero}
 use Rattle.vectors.proofs.number.plus_zero.Statement.{statement}
 use Rattle.vectors.proofs.number.plus_zero.Tie as tie

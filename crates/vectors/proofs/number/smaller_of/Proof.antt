@@ -1,3 +1,4 @@
+-- `old != old` finds the NaN that `isNan` finds; only where it is none does `new < old` decide, as in the definition's `||`.
 use Rattle.vectors.specs.Number.{smaller}
 use Rattle.vectors.proofs.NotANumber.{isNan-is}
 use Rattle.vectors.proofs.number.smaller_of.Statement.{statement}

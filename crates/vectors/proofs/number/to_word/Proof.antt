@@ -1,3 +1,4 @@
+-- What equals itself is no NaN, so the machine's `to_bits` may be asked for its pattern; what does not is `nan`, whose pattern `toWord` computes.
 use mathlib.Core.Path.{_≡_, refl, sym, ap, _∙_}
 use lib.Ieee.{toBits}
 use borrow.Author.Needs.{needs}

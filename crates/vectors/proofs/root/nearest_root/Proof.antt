@@ -7,7 +7,7 @@ use native.Mathlib.Omega.{arith}
 use lib.Dec.{T, ltb, leb, ltb→lt, leb→le}
 use lib.Ieee.Fits.{and-l, and-r}
 use borrow.Author.Needs.{needs}
-use Rattle.vectors.specs.RootParts.{Near}
+use Rattle.vectors.specs.parts.Root.{Near}
 use Rattle.vectors.proofs.root.Whole.{mul-lt-pow, near-above, near-below, nearest-only}
 use Rattle.vectors.proofs.root.nearest_root.Statement.{statement}
 use Rattle.vectors.proofs.root.nearest_root.Tie as tie

@@ -1,3 +1,4 @@
+-- A positive finite x is taken apart by `scale`, rooted among the whole numbers and written back as a pattern; zero, infinity and the rest are settled by the kind of number.
 use mathlib.Core.Path.{_≡_, refl, sym, ap, _∙_, subst}
 use mathlib.Core.Bool.{Bool, true, false, not, false≢true, true≢false}
 use Prim.Native.Nat.{ℕ, zero, suc, _+_, _*_, _/_, _-_, _%_, _^_, _≤_, _<_}
@@ -13,7 +14,7 @@ use borrow.Author.Tests.{lt-ltb, le-ltb, ne-eqb}
 use denote.Floats.{passes}
 use Rattle.vectors.specs.Number.{ofWord, toWord, zero as zero32, one, _⊘_}
 use Rattle.vectors.specs.Root.{root, nearestRoot}
-use Rattle.vectors.specs.RootParts.{Parts}
+use Rattle.vectors.specs.parts.Root.{Parts}
 use Rattle.vectors.proofs.root.Binary.{wholePart, halfPower, whole-bounds, root-bounds, root-parts, root-word, positive-word}
 use Rattle.vectors.proofs.root.root.Statement.{statement}
 use Rattle.vectors.proofs.root.root.Tie as tie

@@ -1,3 +1,4 @@
+-- Where the exponent's field is 0 the leading zeros say how far the digits are moved up; elsewhere the pattern's digits lack only their first one, which is added.
 use mathlib.Core.Path.{sym, subst}
 use Prim.Native.Nat.{ℕ, _*_, _-_, _^_, _≤_, _<_}
 use lib.Count.{leadingZeros}
@@ -5,7 +6,7 @@ use native.Mathlib.Nat.{mod-eq-of-lt}
 use native.Mathlib.Omega.{arith}
 use borrow.Author.Needs.{needs}
 use Rattle.vectors.specs.Number.{ofWord}
-use Rattle.vectors.specs.RootParts.{Parts}
+use Rattle.vectors.specs.parts.Root.{Parts}
 use Rattle.vectors.proofs.root.Binary.{normal-parts, subnormal-parts, shiftOf, shift-bounds}
 use Rattle.vectors.proofs.root.scale.Statement.{statement}
 use Rattle.vectors.proofs.root.scale.Tie as tie

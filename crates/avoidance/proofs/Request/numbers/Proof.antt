@@ -1,0 +1,11 @@
+use mathlib.Core.Path.{refl}
+use Rattle.avoidance.specs.Request.{requestNumbers}
+use Rattle.avoidance.proofs.Request.numbers.Statement.{statement}
+use Rattle.avoidance.proofs.Request.numbers.Tie as tie
+
+returns : tie.Need-returns
+unfolding requestNumbers
+returns c = refl
+
+pub numbers-spec : {M : Type 1} → statement M
+numbers-spec = tie.close (tie.spec returns)

@@ -1,0 +1,57 @@
+-- The velocity of an answer is finite; and that of any reply is a vector of binary32 numbers where the preferred velocity is.
+use mathlib.Core.Path.{_≡_, refl}
+use mathlib.Core.Bool.{Bool, true, false, cond}
+use mathlib.Core.List.{List}
+use Prim.Native.Nat.{ℕ}
+use lib.Ieee.{Float}
+use Rattle.vectors.specs.Vec3.{finiteVec, plusZeros, IsBinary32}
+use Rattle.vectors.proofs.Truth.{no-truth}
+use Rattle.vectors.proofs.Stored.{zero-is, plus-zeros-is, plus-zeros-finite}
+use Rattle.refusals.specs.declared.Found.{Found}
+use Rattle.refusals.specs.declared.Found.the-variants.{At, Nothing}
+use Rattle.refusals.specs.declared.Refusal.{Refusal}
+use Rattle.refusals.specs.declared.Refusal.the-variants.{NoVelocity}
+use Rattle.refusals.specs.declared.Verdict.{Verdict}
+use Rattle.refusals.specs.declared.Verdict.the-variants as verdict
+use Rattle.refusals.specs.Verdict.{settledBy}
+use Rattle.solver.specs.declared.Outcome.{Outcome}
+use Rattle.solver.specs.declared.Outcome.the-variants.{Feasible, Infeasible, BadClamp}
+use Rattle.solver.specs.declared.Solution.{Solution}
+use Rattle.solver.specs.Solve.{solve}
+use Rattle.solver.proofs.Binary32.{solve-is-binary32}
+use Rattle.avoidance.specs.declared.Request.{Request}
+use Rattle.avoidance.specs.declared.Reply.{Reply}
+use Rattle.avoidance.specs.declared.Reply.the-variants.{Answered, Refused}
+use Rattle.avoidance.specs.Reply.{isAnswered, velocityOf}
+use Rattle.avoidance.specs.Checks.{checks}
+use Rattle.avoidance.specs.Velocity.{planesOfCall, answered, replyOf, planesVerdict, plannedReply, velocityCall}
+
+-- what holds of every refusal, and of an answer with the solver's value where that is finite, holds of the reply
+module _ (P : Reply → Type 0) (refused : (r : Refusal) → P (Refused r)) where
+  settled : (v : Verdict) (reply : Reply) → P reply → P (settledBy v Refused reply)
+  settled verdict.Passed reply p = p
+  settled (verdict.Refused r) reply p = refused r
+
+  replied : (solution : Solution) → (finiteVec (solution .value) ≡ true → (relaxed : Found) → P (Answered (record { velocity = plusZeros (solution .value); relaxed = relaxed }))) → P (replyOf solution)
+  unfolding replyOf answered
+  replied solution answer = go (finiteVec (solution .value)) refl (solution .outcome)
+    where
+      go : (b : Bool) → finiteVec (solution .value) ≡ b → (o : Outcome) → P (cond b (answered o (plusZeros (solution .value))) (Refused NoVelocity))
+      go true is (Feasible value) = answer is Nothing
+      go true is (Infeasible failure) = answer is (At (failure .index))
+      go true is (BadClamp index) = refused NoVelocity
+      go false is o = refused NoVelocity
+
+  called : (request : Request) (neighbours : List Float) (k : ℕ)
+      → (let value = solve (planesOfCall request neighbours) (request .«max_speed») (request .preferred) .value in finiteVec value ≡ true → (relaxed : Found) → P (Answered (record { velocity = plusZeros value; relaxed = relaxed })))
+      → P (velocityCall request neighbours k)
+  unfolding velocityCall plannedReply
+  called request neighbours k answer = settled (checks request neighbours k) _ (settled (planesVerdict (planesOfCall request neighbours)) _ (replied _ answer))
+
+pub answer-finite : (request : Request) (neighbours : List Float) (k : ℕ) → isAnswered (velocityCall request neighbours k) ≡ true → finiteVec (velocityOf (velocityCall request neighbours k)) ≡ true
+answer-finite request neighbours k =
+    called (λ (reply : Reply). isAnswered reply ≡ true → finiteVec (velocityOf reply) ≡ true) (λ r e. no-truth e) request neighbours k (λ value-finite relaxed e. plus-zeros-finite _ value-finite)
+
+pub answer-is-binary32 : (request : Request) (neighbours : List Float) (k : ℕ) → IsBinary32 (request .preferred) → IsBinary32 (velocityOf (velocityCall request neighbours k))
+answer-is-binary32 request neighbours k is =
+    called (λ (reply : Reply). IsBinary32 (velocityOf reply)) (λ r. zero-is) request neighbours k (λ value-finite relaxed. plus-zeros-is _ (solve-is-binary32 _ _ _ is))

@@ -1,0 +1,86 @@
+// What a velocity call answers: document 01's number, place and velocity of each reply. The definitions are in
+// `specs/Reply.antt`.
+ghost use mathlib.Core.Path.{_≡_};
+ghost use Rattle.avoidance.specs.Reply.{number, placeOf, velocityOf, isAnswered, relaxedOf, renamedRefusal, renamed};
+use super::Reply;
+use refusals::Found;
+use refusals::Refusal;
+use vectors::Vec3;
+
+// A refusal that names a neighbour, with the name that stands in the list for it.
+fn renamed_refusal(refusal: Refusal, names: &[usize]) -> Refusal
+    ensures { λ r. ⌜ r ≡ renamedRefusal (now (names .entry)) refusal ⌝ }
+{
+    if refusal.number() != 6 {
+        return refusal;
+    }
+    let neighbour = refusal.place();
+    let name = if neighbour < names.len() {
+        names[neighbour]
+    } else {
+        0
+    };
+    Refusal::PlaneNotFinite { neighbour: name }
+}
+
+impl Reply {
+    // Its number in document 01's table.
+    pub fn number(self) -> u32
+        ensures { λ r. ⌜ r ≡ number self ⌝ }
+    {
+        match self {
+            Reply::Answered(_) => 0,
+            Reply::Refused(refusal) => refusal.number(),
+        }
+    }
+
+    // Its place there.
+    pub fn place(self) -> usize
+        ensures { λ r. ⌜ r ≡ placeOf self ⌝ }
+    {
+        match self {
+            Reply::Answered(_) => 0,
+            Reply::Refused(refusal) => refusal.place(),
+        }
+    }
+
+    // Its velocity: three +0s for a refusal.
+    pub fn velocity(self) -> Vec3
+        ensures { λ r. ⌜ r ≡ velocityOf self ⌝ }
+    {
+        match self {
+            Reply::Answered(course) => course.velocity,
+            Reply::Refused(_) => Vec3::zero(),
+        }
+    }
+
+    // The plane from which its velocity is relaxed, if it is.
+    pub fn relaxed(self) -> Found
+        ensures { λ r. ⌜ r ≡ relaxedOf self ⌝ }
+    {
+        match self {
+            Reply::Answered(course) => course.relaxed,
+            Reply::Refused(_) => Found::Nothing,
+        }
+    }
+
+    // Whether it has a velocity to take.
+    pub fn is_answered(self) -> bool
+        ensures { λ r. ⌜ r ≡ isAnswered self ⌝ }
+    {
+        match self {
+            Reply::Answered(_) => true,
+            Reply::Refused(_) => false,
+        }
+    }
+
+    // The reply with its neighbours by other names: those that stand in the list for them.
+    pub fn renamed(self, names: &[usize]) -> Reply
+        ensures { λ r. ⌜ r ≡ renamed (now (names .entry)) self ⌝ }
+    {
+        match self {
+            Reply::Answered(_) => self,
+            Reply::Refused(refusal) => Reply::Refused(renamed_refusal(refusal, names)),
+        }
+    }
+}

@@ -1,0 +1,8 @@
+-- Laws that more than one proof cites, and what is proved of the definitions themselves.
+pub mod Parts
+pub mod Within
+pub mod Passed
+pub mod Decoding
+pub mod Refusals
+pub mod Goals
+pub mod Kept

@@ -1,0 +1,38 @@
+-- Document 01's table of numbered answers: each refusal's number and place.
+use Prim.Native.Nat.{ℕ}
+use Rattle.refusals.specs.declared.Refusal.{Refusal}
+use Rattle.refusals.specs.declared.Refusal.the-variants.{BadNeighbours, ShortScratch, NotFinite, OutOfRange, BadFallback, PlaneNotFinite, NoVelocity, NoAgent, Full, TickOpen, NoTick, Unplanned, PositionNotFinite, BadFile, BadMargin}
+
+abbrev pub number : Refusal → ℕ
+number BadNeighbours = 1
+number (ShortScratch needed) = 2
+number (NotFinite place) = 3
+number (OutOfRange place) = 4
+number (BadFallback place) = 5
+number (PlaneNotFinite neighbour) = 6
+number NoVelocity = 7
+number (NoAgent index) = 8
+number (Full most) = 9
+number TickOpen = 10
+number NoTick = 11
+number (Unplanned agent) = 12
+number (PositionNotFinite agent) = 13
+number (BadFile bytes) = 14
+number (BadMargin place) = 15
+
+abbrev pub placeOf : Refusal → ℕ
+placeOf BadNeighbours = 0
+placeOf (ShortScratch needed) = needed
+placeOf (NotFinite place) = place
+placeOf (OutOfRange place) = place
+placeOf (BadFallback place) = place
+placeOf (PlaneNotFinite neighbour) = neighbour
+placeOf NoVelocity = 0
+placeOf (NoAgent index) = index
+placeOf (Full most) = most
+placeOf TickOpen = 0
+placeOf NoTick = 0
+placeOf (Unplanned agent) = agent
+placeOf (PositionNotFinite agent) = agent
+placeOf (BadFile bytes) = bytes
+placeOf (BadMargin place) = place

@@ -1,0 +1,2 @@
+-- What private functions promise each other: no contract of a public function cites it.
+pub mod FourD

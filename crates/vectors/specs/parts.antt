@@ -1,0 +1,2 @@
+-- What private functions promise each other, in terms that no public contract cites.
+pub mod Root
