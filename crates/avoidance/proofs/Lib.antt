@@ -6,3 +6,5 @@ pub mod AgentNumbers
 pub mod Ranges
 pub mod Examples
 pub mod Velocities
+pub mod CallNumbers
+pub mod FitCalls

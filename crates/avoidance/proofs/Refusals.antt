@@ -90,14 +90,14 @@ unfolding planesVerdict
 planes-say planes = found-says (firstBad badPlane 0 planes) refusal.PlaneNotFinite 6 _ (λ neighbour. refl) refl
 
 solution-says : (solution : Solution) → refusedWith (replyOf solution) ≡ firstHolding ((7, noVelocity solution) ∷ [])
-unfolding firstHolding replyOf answered noVelocity badClamp
+unfolding replyOf answered noVelocity badClamp
 solution-says solution = go (finiteVec (solution .value)) (solution .outcome)
   where
     go : (b : Bool) (o : Outcome) → refusedWith (cond b (answered o (plusZeros (solution .value))) (Refused refusal.NoVelocity)) ≡ firstHolding ((7, not b || badClamp o) ∷ [])
-    go true (Feasible v) = refl
-    go true (Infeasible f) = refl
-    go true (BadClamp i) = refl
-    go false o = refl
+    go true (Feasible v) = held-says false refusal.NoVelocity
+    go true (Infeasible f) = held-says false refusal.NoVelocity
+    go true (BadClamp i) = held-says true refusal.NoVelocity
+    go false o = held-says true refusal.NoVelocity
 
 -- the refusal is the one of the first condition that holds
 pub by-conditions : (request : Request) (neighbours : List Float) (k : ℕ) → refusedWith (velocityCall request neighbours k) ≡ firstHolding (velocityConditions request neighbours k)

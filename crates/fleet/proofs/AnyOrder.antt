@@ -61,7 +61,8 @@ module _ (rs : List Record) (timeStep : Float) (rule : Rule) (few : length rs �
 
   -- ---- the canonical plans
 
-  held-full : (plans : List Slot) (j : ℕ) → j < length plans → ((i : ℕ) → i < j → getD plans i (slot Nothing) ≡ planOf i) → (i : ℕ) → i < suc j → getD (withHeld plans j (dueTo j)) i (slot Nothing) ≡ planOf i
+  held-full : (plans : List Slot) (j : ℕ) → j < length plans → ((i : ℕ) → i < j → getD plans i (slot Nothing) ≡ planOf i)
+      → (i : ℕ) → i < suc j → getD (withHeld plans j (dueTo j)) i (slot Nothing) ≡ planOf i
   unfolding withHeld
   held-full plans j room before i below = go (eqb i j) refl
     where
@@ -78,7 +79,8 @@ module _ (rs : List Record) (timeStep : Float) (rule : Rule) (few : length rs �
     all : (i : ℕ) → i < length rs → getD plans i (slot Nothing) ≡ planOf i
 
   in-order : (m j : ℕ) (plans goals : List Slot) (scratch : List Float) → fullScratch ≤ length scratch → j + m ≡ length rs → length plans ≡ mostAgents
-      → ((i : ℕ) → i < j → getD plans i (slot Nothing) ≡ planOf i) → ((i : ℕ) → i < length rs → Can rs timeStep rule few i) → Planned goals (after (stateOf plans goals) (inOrder j m scratch))
+      → ((i : ℕ) → i < j → getD plans i (slot Nothing) ≡ planOf i) → ((i : ℕ) → i < length rs → Can rs timeStep rule few i)
+      → Planned goals (after (stateOf plans goals) (inOrder j m scratch))
   unfolding after inOrder step planCall planIn state
   in-order zero j plans goals scratch enough all long before can = record { plans = plans; is = refl; long = long; all = λ i below. before i (omega arith) }
   in-order (suc m) j plans goals scratch enough all long before can =
@@ -88,7 +90,9 @@ module _ (rs : List Record) (timeStep : Float) (rule : Rule) (few : length rs �
       (in-order m (suc j) (withHeld plans j (dueTo j)) goals scratch enough (omega arith) (held-length plans j (dueTo j) ∙ long) (held-full plans j (omega arith) before) can)
 
   -- plans that agree for every agent close alike
-  front-same : (plans plans′ : List Slot) → length plans ≡ mostAgents → length plans′ ≡ mostAgents → ((i : ℕ) → i < length rs → getD plans i (slot Nothing) ≡ planOf i) → ((i : ℕ) → i < length rs → getD plans′ i (slot Nothing) ≡ planOf i)
+  front-same : (plans plans′ : List Slot) → length plans ≡ mostAgents → length plans′ ≡ mostAgents
+      → ((i : ℕ) → i < length rs → getD plans i (slot Nothing) ≡ planOf i)
+      → ((i : ℕ) → i < length rs → getD plans′ i (slot Nothing) ≡ planOf i)
       → take (length rs) plans ≡ take (length rs) plans′
   front-same plans plans′ long long′ all all′ = take-same (length rs) plans plans′ (slot Nothing) (omega arith) (omega arith) (λ i below. all i below ∙ sym (all′ i below))
 
@@ -153,8 +157,11 @@ module _ (rs : List Record) (timeStep : Float) (rule : Rule) (few : length rs �
       let plans = reached .plans in
       let long = reached .ok .long in
       let passed = accepted-close rs timeStep rule few plans goals (subst (λ (fleet : Fleet). accepted fleet Call.close ≡ true) (reached .is) accepted-is) in
-      let right : (i : ℕ) → i < length rs → (getD plans i (slot Nothing) ≡ planOf i) × Can rs timeStep rule few i = λ i below. reached .ok .right i below (all-planned rs timeStep rule few plans long passed i below) in
-      let canon = in-order (length rs) 0 nothingHeld nothingHeld scratch enough (omega arith) (length-replicate mostAgents (slot Nothing)) (λ i below. absurd (not-suc-le-zero below)) (λ i below. right i below .1) in
+      let right : (i : ℕ) → i < length rs → (getD plans i (slot Nothing) ≡ planOf i) × Can rs timeStep rule few i =
+      λ i below. reached .ok .right i below (all-planned rs timeStep rule few plans long passed i below) in
+      let canon =
+      in-order (length rs) 0 nothingHeld nothingHeld scratch enough (omega arith) (length-replicate mostAgents (slot Nothing))
+      (λ i below. absurd (not-suc-le-zero below)) (λ i below. right i below .1) in
       let same = front-same plans (canon .plans) long (canon .long) (λ i below. right i below .0) (canon .all) in
       let moved-all = allMoved timeStep rs plans in
       let many : length moved-all ≡ length rs = moved-length plans long in
@@ -167,7 +174,10 @@ module _ (rs : List Record) (timeStep : Float) (rule : Rule) (few : length rs �
       let there : after opening (inOrder 0 (length rs) scratch ++ Call.close ∷ goalCalls gs) ≡ fleetOf (applied moved-all gs) =
       after-append opening (inOrder 0 (length rs) scratch) (Call.close ∷ goalCalls gs)
       ∙ ap (λ (fleet : Fleet). after (step fleet Call.close .fleet) (goalCalls gs)) (canon .is)
-      ∙ ap (λ (fleet : Fleet). after fleet (goalCalls gs)) (closed rs timeStep rule few (canon .plans) nothingHeld (sym (verdict-same plans (canon .plans) same) ∙ passed) ∙ ap (λ (l : List Record). ended l nothingHeld) (sym (moved-same plans (canon .plans) same)) ∙ ap fleetOf none)
+      ∙ ap (λ (fleet : Fleet). after fleet (goalCalls gs))
+      (closed rs timeStep rule few (canon .plans) nothingHeld (sym (verdict-same plans (canon .plans) same) ∙ passed)
+      ∙ ap (λ (l : List Record). ended l nothingHeld) (sym (moved-same plans (canon .plans) same))
+      ∙ ap fleetOf none)
       ∙ goals-shut moved-all gs fits in
       here ∙ sym there
 
@@ -199,25 +209,32 @@ module _ (fleet : Fleet) (timeStep : Float) (rule : Rule) (whole : Whole fleet) 
   same-opening : opened ≡ opening (agents fleet) timeStep rule few
   same-opening = opened-is fleet timeStep rule few opens
 
-  -- a close that is accepted leaves the table that the canonical run leaves: agents 0, 1, 2 and on planned, with scratch for 63 neighbours, the tick closed, and then the accepted goal calls made in their order
+  -- a close that is accepted leaves the table that the canonical run leaves: agents 0, 1, 2 and on planned, with scratch for 63 neighbours,
+  -- the tick closed, and then the accepted goal calls made in their order
   pub any-order : (calls : List Call) (scratch : List Float) → staysOpen opened calls ≡ true → accepted (after opened calls) Call.close ≡ true → fullScratch ≤ length scratch
       → after opened (calls ++ Call.close ∷ []) ≡ after opened (canonical opened scratch (goalsOf opened calls))
   unfolding canonical after
   any-order calls scratch =
-      subst (λ (start : Fleet). staysOpen start calls ≡ true → accepted (after start calls) Call.close ≡ true → fullScratch ≤ length scratch → after start (calls ++ Call.close ∷ []) ≡ after start (inOrder 0 (length (agents start)) scratch ++ Call.close ∷ goalCalls (goalsOf start calls)))
+      subst (λ (start : Fleet). staysOpen start calls ≡ true → accepted (after start calls) Call.close ≡ true → fullScratch ≤ length scratch
+      → after start (calls ++ Call.close ∷ []) ≡ after start (inOrder 0 (length (agents start)) scratch ++ Call.close ∷ goalCalls (goalsOf start calls)))
       (sym same-opening)
       (λ still closes enough.
       after-append (opening (agents fleet) timeStep rule few) calls (Call.close ∷ [])
       ∙ any-order-here (agents fleet) timeStep rule few calls scratch still closes enough
-      ∙ ap (λ (n : ℕ). after (opening (agents fleet) timeStep rule few) (inOrder 0 n scratch ++ Call.close ∷ goalCalls (goalsOf (opening (agents fleet) timeStep rule few) calls))) (sym (ap length (agents-open (agents fleet) timeStep rule few))))
+      ∙ ap (λ (n : ℕ). after (opening (agents fleet) timeStep rule few) (inOrder 0 n scratch ++ Call.close ∷ goalCalls (goalsOf (opening (agents fleet) timeStep rule few) calls)))
+      (sym (ap length (agents-open (agents fleet) timeStep rule few))))
 
   -- each plan among the calls that is accepted answers what demand 2's definition gives on the records as they stood at the opening
   pub standing-plans : (calls : List Call) → staysOpen opened calls ≡ true → (index : ℕ) (scratch : List Float) → accepted (after opened calls) (Call.plan index scratch) ≡ true
       → step (after opened calls) (Call.plan index scratch) .answer ≡ answer.Plan (replyFor timeStep rule (agents fleet) index (length scratch))
   standing-plans calls still index scratch =
-      subst (λ (start : Fleet). staysOpen start calls ≡ true → accepted (after start calls) (Call.plan index scratch) ≡ true → step (after start calls) (Call.plan index scratch) .answer ≡ answer.Plan (replyFor timeStep rule (agents fleet) index (length scratch)))
+      subst (λ (start : Fleet). staysOpen start calls ≡ true → accepted (after start calls) (Call.plan index scratch) ≡ true
+      → step (after start calls) (Call.plan index scratch) .answer ≡ answer.Plan (replyFor timeStep rule (agents fleet) index (length scratch)))
       (sym same-opening)
-      (λ still′ takes. plan-here (agents fleet) timeStep rule few (goalsOf (opening (agents fleet) timeStep rule few) calls) _ (calls-lead (agents fleet) timeStep rule few calls [] (opening (agents fleet) timeStep rule few) (opened-right (agents fleet) timeStep rule few) still′) index scratch takes)
+      (λ still′ takes.
+      let start = opening (agents fleet) timeStep rule few in
+      let led = calls-lead (agents fleet) timeStep rule few calls [] start (opened-right (agents fleet) timeStep rule few) still′ in
+      plan-here (agents fleet) timeStep rule few (goalsOf start calls) _ led index scratch takes)
       still
 
   -- drop moves nobody, and the accepted goal calls are taken up in their order
@@ -229,7 +246,8 @@ module _ (fleet : Fleet) (timeStep : Float) (rule : Rule) (whole : Whole fleet) 
       (λ still. after-append (opening (agents fleet) timeStep rule few) calls (Call.drop ∷ []) ∙ dropped-here (agents fleet) timeStep rule few calls still)
 
   -- the order, the number and the scratch of plans do not show: only the accepted goal calls do
-  pub order-unseen : (calls other : List Call) → staysOpen opened calls ≡ true → staysOpen opened other ≡ true → accepted (after opened calls) Call.close ≡ true → accepted (after opened other) Call.close ≡ true
+  pub order-unseen : (calls other : List Call) → staysOpen opened calls ≡ true → staysOpen opened other ≡ true
+      → accepted (after opened calls) Call.close ≡ true → accepted (after opened other) Call.close ≡ true
       → goalsOf opened calls ≡ goalsOf opened other → after opened (calls ++ Call.close ∷ []) ≡ after opened (other ++ Call.close ∷ [])
   order-unseen calls other still still′ closes closes′ same =
       let scratch : List Float = replicate fullScratch zero32 in

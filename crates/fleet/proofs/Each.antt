@@ -1,12 +1,14 @@
 -- Laws on two lists taken element by element.
-use mathlib.Core.Path.{_≡_, refl, sym, ap, _∙_}
+use mathlib.Core.Path.{_≡_, refl, sym, ap, _∙_, subst}
 use mathlib.Core.List.{List, [], _∷_, _++_, append-assoc, append-nil}
 use Prim.Native.Nat.{ℕ, zero, suc, _+_, _≤_, _<_}
 use native.Mathlib.Nat.{not-suc-le-zero, le-of-suc-le-suc}
 use native.Mathlib.Numerals.{add-one}
+use native.Mathlib.Omega.{arith}
 use lib.ListN.{length, getD, take, drop, set, drop-of-length-le}
 use lib.Seq.{take-suc-set, take-all}
 use Rattle.fleet.specs.Tick.{each}
+use Rattle.fleet.proofs.Lists.{Every}
 
 -- what stands of the results, and then those that are left
 abbrev pub soFar : {A B C : Type 0} → (A → B → C) → ℕ → List C → List A → List B → List C
@@ -71,3 +73,10 @@ module _ {A B C : Type 0} (f : A → B → C) where
   -- second lists that agree as far as they are read give the same
   pub each-same : (xs : List A) (ys zs : List B) → take (length xs) ys ≡ take (length xs) zs → each f xs ys ≡ each f xs zs
   each-same xs ys zs same = each-front xs ys ∙ ap (each f xs) same ∙ sym (each-front xs zs)
+
+  -- what holds of what each two give holds of every result
+  pub each-every : (P : C → Type 0) (xs : List A) (ys : List B) (d : A) (e : B) (c : C) → length xs ≤ length ys
+      → ((i : ℕ) → i < length xs → P (f (getD xs i d) (getD ys i e))) → Every P c (each f xs ys)
+  each-every P xs ys d e c room all i h =
+      let there : i < length xs = omega (arith, each-length xs ys room) in
+      subst P (sym (each-at xs ys i d e c there (omega arith))) (all i there)

@@ -122,7 +122,8 @@ module _ (rs : List Record) (timeStep : Float) (rule : Rule) (few : length rs �
     right = λ i below is. go (eqb i index) i refl below is;
   }
     where
-      go : (b : Bool) (i : ℕ) → eqb i index ≡ b → i < length rs → hasPlan (getD (set plans index (full index)) i (slot Nothing) .held) ≡ true → (getD (set plans index (full index)) i (slot Nothing) ≡ full i) × Can i
+      go : (b : Bool) (i : ℕ) → eqb i index ≡ b → i < length rs → hasPlan (getD (set plans index (full index)) i (slot Nothing) .held) ≡ true
+          → (getD (set plans index (full index)) i (slot Nothing) ≡ full i) × Can i
       go true i same below is =
           let e = eqb-true i index same in
           (ap (λ (j : ℕ). getD (set plans index (full index)) j (slot Nothing)) e ∙ getD-set-same plans index (full index) (slot Nothing) (omega (arith, ok .long)) ∙ ap full (sym e), subst Can (sym e) can)
@@ -202,7 +203,9 @@ module _ (rs : List Record) (timeStep : Float) (rule : Rule) (few : length rs �
   calls-lead [] gs fleet reached open-still = subst (λ (hs : List (ℕ × Vec3)). Reached hs fleet) (sym (append-nil gs)) reached
   calls-lead (call ∷ calls) gs fleet reached open-still =
       let (one, more) = both (stays fleet call) (staysOpen (step fleet call .fleet) calls) open-still in
-      let next = subst (λ (g : Fleet). stays g call ≡ true → Reached (gs ++ goalIn g call) (step g call .fleet)) (sym (reached .is)) (any-call (reached .plans) gs (reached .ok) (reached .fits) call) one in
+      let next =
+      subst (λ (g : Fleet). stays g call ≡ true → Reached (gs ++ goalIn g call) (step g call .fleet)) (sym (reached .is))
+      (any-call (reached .plans) gs (reached .ok) (reached .fits) call) one in
       subst (λ (hs : List (ℕ × Vec3)). Reached hs (after (step fleet call .fleet) calls)) (append-assoc gs (goalIn fleet call) (goalsOf (step fleet call .fleet) calls))
       (calls-lead calls (gs ++ goalIn fleet call) (step fleet call .fleet) next more)
 

@@ -9,3 +9,6 @@ pub mod HeldGoals
 pub mod Refusals
 pub mod InTick
 pub mod AnyOrder
+pub mod Storing
+pub mod Sound
+pub mod PassesOn

@@ -166,7 +166,7 @@ impl Fleet {
     pub fn empty() -> Fleet
         ensures { λ r. ⌜ r ≡ fleetOf [] ⌝ }
     {
-        let records = [Record::blank(); 64];
+        let records = [Record::blank(); MOST_AGENTS];
         holding_nothing(Tick::Shut, records, 0)
     }
 

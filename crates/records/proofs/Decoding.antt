@@ -1,7 +1,7 @@
 -- A file that passed is decoded as its records, of which there are at most 64, and a reader hands out those very records.
 use mathlib.Core.Path.{_≡_, refl, sym, ap, _∙_}
 use mathlib.Core.List.{List}
-use Prim.Native.Nat.{ℕ, _-_, _*_, _/_, _≤_, _<_}
+use Prim.Native.Nat.{ℕ, _+_, _-_, _*_, _/_, _≤_, _<_}
 use native.Mathlib.Nat.{zero-add}
 use native.Mathlib.Omega.{arith}
 use borrow.Author.Tests.{lt-ltb}
@@ -19,7 +19,7 @@ use Rattle.records.specs.File.{recordBytes, wordIn, recordIn, recordsOf,
 use Rattle.records.specs.Reader.{recordAt, storedVerdict, handedAt}
 use Rattle.records.proofs.Parts.{parts-length, part-at}
 use Rattle.records.proofs.Within.{whole-passed}
-use Rattle.records.proofs.Passed.{each-passed}
+use Rattle.records.proofs.Passed.{place-free, each-passed}
 
 -- ---- what a file is decoded as
 
@@ -63,6 +63,10 @@ record-is file k h =
 pub record-words : (file : List ℕ) (k : ℕ) → k < length (recordsOf file) → length (getD (recordsOf file) k blank .words) ≡ perRecord
 unfolding recordIn
 record-words file k h = ap (λ (r : Record). length (r .words)) (record-is file k h) ∙ parts-length 4 wordIn perRecord (drop (recordBytes * k) file)
+
+-- and passes by itself
+pub record-passes : (file : List ℕ) (k : ℕ) → fileVerdict file ≡ Passed → k < length (recordsOf file) → recordVerdict 0 (getD (recordsOf file) k blank) ≡ Passed
+record-passes file k e h = place-free (0 + perRecord * k) (getD (recordsOf file) k blank) (each-passed 0 (recordsOf file) k (both file e .1) h)
 
 -- a reader hands out the very record that the file is decoded as at that index
 pub reader-decoded : (file : List ℕ) (k : ℕ) → fileVerdict file ≡ Passed → k < length (recordsOf file) → handedAt file k ≡ record { verdict = Passed; stored = getD (recordsOf file) k blank }

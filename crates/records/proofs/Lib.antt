@@ -6,3 +6,4 @@ pub mod Decoding
 pub mod Refusals
 pub mod Goals
 pub mod Kept
+pub mod FitRecords

@@ -7,7 +7,7 @@ use native.Mathlib.Nat.{not-suc-le-zero, le-of-suc-le-suc, zero-add}
 use native.Mathlib.Omega.{arith}
 use lib.ListN.{length, getD}
 use borrow.Author.Tests.{ne-eqb, not-false}
-use Rattle.vectors.specs.Number.{_<ᶠ_, _>ᶠ_, finite, zero as zero32}
+use Rattle.vectors.specs.Number.{finite}
 use Rattle.refusals.specs.declared.Found.the-variants.{Nothing}
 use Rattle.refusals.specs.declared.Refusal.the-variants.{NotFinite, OutOfRange, BadFallback, BadMargin}
 use Rattle.refusals.specs.declared.Verdict.the-variants.{Passed}
@@ -17,9 +17,8 @@ use Rattle.refusals.proofs.Conditions.{none-bad}
 use Rattle.refusals.proofs.Verdicts.{both-passed, nothing-found, does-not-hold}
 use Rattle.avoidance.specs.declared.Asked.the-variants.{Finite, InRange}
 use Rattle.avoidance.specs.Checks.{outside, badFallback}
-use Rattle.avoidance.proofs.Ranges.{not-negative, positive}
 use Rattle.records.specs.declared.Record.{Record}
-use Rattle.records.specs.Record.{perRecord, radiusWord, responsibilityWord, maxSpeedWord, horizonWord, fallbackWord, marginWord, blank, wordAt, numberAt, radiusOf, responsibilityOf, maxSpeedOf, horizonOf, fallbackOf}
+use Rattle.records.specs.Record.{perRecord, fallbackWord, marginWord, blank, wordAt, numberAt, fallbackOf}
 use Rattle.records.specs.Checks.{badMargin, wordKind, badWord, recordVerdict}
 use Rattle.records.specs.File.{recordsVerdict}
 
@@ -86,21 +85,3 @@ module _ (r : Record) (passed : recordVerdict 0 r ≡ Passed) where
 
   pub passed-fallback : badFallback (fallbackOf r) ≡ false
   passed-fallback = passed-fit 0 r passed .fallback
-
-  -- ---- by name
-
-  pub passed-radius : length (r .words) ≡ perRecord → radiusOf r <ᶠ zero32 ≡ false
-  unfolding wordKind
-  passed-radius all = not-negative (radiusOf r) (passed-kind all radiusWord (omega arith))
-
-  pub passed-responsibility : length (r .words) ≡ perRecord → responsibilityOf r <ᶠ zero32 ≡ false
-  unfolding wordKind
-  passed-responsibility all = not-negative (responsibilityOf r) (passed-kind all responsibilityWord (omega arith))
-
-  pub passed-max-speed : length (r .words) ≡ perRecord → maxSpeedOf r <ᶠ zero32 ≡ false
-  unfolding wordKind
-  passed-max-speed all = not-negative (maxSpeedOf r) (passed-kind all maxSpeedWord (omega arith))
-
-  pub passed-horizon : length (r .words) ≡ perRecord → horizonOf r >ᶠ zero32 ≡ true
-  unfolding wordKind
-  passed-horizon all = positive (horizonOf r) (passed-kind all horizonWord (omega arith))

@@ -4,8 +4,8 @@ use mathlib.Core.List.{List, []}
 use Prim.Native.Nat.{ℕ}
 use lib.ListN.{length, take, drop}
 use lib.Ieee.{Float, neg}
-use Rattle.vectors.specs.declared.number.Clamped.{Clamped}
-use Rattle.vectors.specs.declared.number.Clamped.the-variants as clamp
+use Rattle.vectors.specs.declared.Clamped.{Clamped}
+use Rattle.vectors.specs.declared.Clamped.the-variants as clamp
 use Rattle.vectors.specs.declared.Vec3.{Vec3}
 use Rattle.vectors.specs.Number.{_⊕_, _⊖_, _⊗_, _<ᶠ_, _≤ᶠ_, _>ᶠ_, _≥ᶠ_, zero, rvoEpsilon}
 use Rattle.vectors.specs.Vec3.{_-ᵥ_, _*ᵥ_, dot, cross, lengthSquared, IsBinary32}

@@ -17,6 +17,10 @@ unfolding numbersOfPlane numbersOfPlanes
 flat-length [] = refl
 flat-length (p ∷ ps) = let rec = flat-length ps in omega arith
 
+pub flat-none : numbersOfPlanes [] ≡ []
+unfolding numbersOfPlanes
+flat-none = refl
+
 flat-append : (ps qs : List Plane) → numbersOfPlanes (ps ++ qs) ≡ numbersOfPlanes ps ++ numbersOfPlanes qs
 unfolding numbersOfPlanes
 flat-append [] qs = refl

@@ -2,8 +2,8 @@
 use mathlib.Core.Bool.{cond}
 use mathlib.Core.List.{List, []}
 use lib.Ieee.{Float, neg}
-use Rattle.vectors.specs.declared.number.Clamped.{Clamped}
-use Rattle.vectors.specs.declared.number.Clamped.the-variants as clamp
+use Rattle.vectors.specs.declared.Clamped.{Clamped}
+use Rattle.vectors.specs.declared.Clamped.the-variants as clamp
 use Rattle.vectors.specs.declared.Vec3.{Vec3}
 use Rattle.vectors.specs.Number.{_⊕_, _⊖_, _⊗_, _⊘_, _<ᶠ_, _≤ᶠ_, _>ᶠ_, _≥ᶠ_, zero, rvoEpsilon, larger, smaller, clamped}
 use Rattle.vectors.specs.Root.{root}

@@ -14,7 +14,7 @@ use lib.Ieee.Nearest.{closest, closest-same, closest-mono}
 use borrow.Author.Tests.{ne-eqb, ltb-false}
 use Rattle.vectors.specs.Number.{ofWord}
 use Rattle.spacing.specs.Millimetres.{signed, wholeNearest, millimetres}
-use Rattle.spacing.specs.MillimetresParts.{reach, unitsIn, sizeOf}
+use Rattle.spacing.specs.parts.Millimetres.{reach, unitsIn, sizeOf}
 use Rattle.spacing.specs.Frame.{outOfReach}
 use Rattle.spacing.proofs.WholeNumbers.{natAbs-signed}
 

@@ -10,9 +10,9 @@ use lib.Seq.{drop-cons}
 use lib.Ieee.{Float, nan}
 use Rattle.spacing.specs.declared.pairs.Running.{Running}
 use Rattle.spacing.specs.Millimetres.{apart, millimetres}
-use Rattle.spacing.specs.MillimetresParts.{reach}
+use Rattle.spacing.specs.parts.Millimetres.{reach}
 use Rattle.spacing.specs.Frame.{Position, positions, square, squared}
-use Rattle.spacing.specs.PairsParts.{Sound, Along, Near, between, squaredAt, listed, withRow, withPairs}
+use Rattle.spacing.specs.parts.Pairs.{FitFrame, Along, Near, between, squaredAt, listed, withRow, withPairs}
 use Rattle.spacing.proofs.Patterns.{within-size}
 use Rattle.spacing.proofs.WholeNumbers.{apart-corner, corner-near}
 use Rattle.spacing.proofs.WithinReach.{reached}
@@ -58,7 +58,7 @@ at-index (x ∷ y ∷ z ∷ rest) (suc n) e (suc k) h = at-index rest n (omega a
 
 -- ---- the arrays
 
-module _ (agents : ℕ) (frame : List Float) (sound : Sound agents frame) where
+module _ (agents : ℕ) (frame : List Float) (sound : FitFrame agents frame) where
   -- a component is within reach
   small : (axis : ℕ) → axis < 3 → (k : ℕ) → k < agents → natAbs (millimetres (getD frame (3 * k + axis) nan)) ≤ reach
   small axis a k h = within-size (getD frame (3 * k + axis) nan) (reached 0 frame (sound .within) (3 * k + axis) (omega (arith, sound .long)))

@@ -9,7 +9,7 @@ use lib.Dec.{ltb, eqb}
 use borrow.Author.Tests.{lt-ltb, le-ltb, ltb-true, ltb-false, eq-eqb, ne-eqb}
 use Rattle.spacing.specs.declared.pairs.Glance.{Glance}
 use Rattle.spacing.specs.declared.pairs.Running.{Running}
-use Rattle.spacing.specs.PairsParts.{listed, withSquare, glanced, secondOf, withPair, withRow}
+use Rattle.spacing.specs.parts.Pairs.{listed, withSquare, glanced, secondOf, withPair, withRow}
 
 -- ---- the list of squares
 

@@ -6,7 +6,7 @@ use native.Mathlib.Omega.{arith}
 use lib.Pow.{pow-add, pow-pos, pow-mono, shl-lt, shl-exact, shr-lt}
 use lib.Ieee.Nearest.{closest, closest-same, closest-mono}
 use Rattle.spacing.specs.Millimetres.{wholeNearest}
-use Rattle.spacing.specs.MillimetresParts.{unitsIn, sizeOf}
+use Rattle.spacing.specs.parts.Millimetres.{unitsIn, sizeOf}
 use Rattle.spacing.proofs.Carry.{carry}
 
 -- ---- below exponent 116

@@ -8,9 +8,9 @@ use native.Mathlib.Omega.{arith}
 use lib.Dec.{T, leb, leb→le, nleb→lt}
 use Rattle.vectors.proofs.root.Whole.{mul-lt-pow}
 use Rattle.spacing.specs.declared.pairs.Spot.{Spot}
-use Rattle.spacing.specs.MillimetresParts.{reach}
+use Rattle.spacing.specs.parts.Millimetres.{reach}
 use Rattle.spacing.specs.Frame.{square}
-use Rattle.spacing.specs.PairsParts.{between, spotAt, Placed, AllPlaced, squaredBetween, squaredAt}
+use Rattle.spacing.specs.parts.Pairs.{between, spotAt, Placed, AllPlaced, squaredBetween, squaredAt}
 
 -- a product of two distances from the corner
 pub product-small : (a b : ℕ) → a ≤ 2 * reach → b ≤ 2 * reach → a * b < 2 ^ 50

@@ -15,12 +15,12 @@ use Rattle.spacing.specs.declared.Smallest.{Smallest}
 use Rattle.spacing.specs.declared.Smallest.the-variants.{Nowhere, Seen}
 use Rattle.spacing.specs.declared.pairs.Running.{Running}
 use Rattle.spacing.specs.Millimetres.{apart}
-use Rattle.spacing.specs.MillimetresParts.{reach}
+use Rattle.spacing.specs.parts.Millimetres.{reach}
 use Rattle.spacing.specs.Frame.{Position, positions, square, squared, sighted, pairs, outOfReach}
 use Rattle.spacing.specs.Report.{lesser, smallestOf, belowOf}
 use Rattle.spacing.specs.Tally.{withinReach}
-use Rattle.spacing.specs.PairsParts.{withPair, withRow, withPairs, startAt}
-use Rattle.spacing.specs.TallyParts.{boundOf, smallestAfter}
+use Rattle.spacing.specs.parts.Pairs.{withPair, withRow, withPairs, startAt}
+use Rattle.spacing.specs.parts.Tally.{boundOf, smallestAfter}
 use Rattle.spacing.proofs.Patterns.{within-size}
 use Rattle.spacing.proofs.SmallestOf.{lesser-nowhere, lesser-assoc, smallest-append, below-append}
 use Rattle.spacing.proofs.Squares.{product-small}

@@ -7,8 +7,8 @@ use native.Mathlib.Omega.{arith}
 use lib.IntN.{ℤ, pos, negsuc, negℤ, natAbs, _*ℤ_, _-ℤ_, negℤ-negℤ, negℤ-+ℤ}
 use lib.Dec.{T, ltb, ltb→lt, nltb→le}
 use Rattle.spacing.specs.Millimetres.{signed, apart}
-use Rattle.spacing.specs.MillimetresParts.{reach, fromCorner}
-use Rattle.spacing.specs.PairsParts.{between}
+use Rattle.spacing.specs.parts.Millimetres.{reach, fromCorner}
+use Rattle.spacing.specs.parts.Pairs.{between}
 
 pub natAbs-neg : (k : ℤ) → natAbs (negℤ k) ≡ natAbs k
 natAbs-neg (pos zero) = refl

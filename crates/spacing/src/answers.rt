@@ -2,6 +2,8 @@
 ghost use mathlib.Core.Path.{_≡_};
 ghost use Rattle.spacing.specs.Answers.{number, placeOf};
 use super::Answer;
+use super::MOST_AGENTS;
+use super::MOST_FRAMES;
 use super::Refusal;
 
 impl Answer {
@@ -27,9 +29,9 @@ impl Answer {
         match self {
             Answer::Done => 0,
             Answer::Refused(refusal) => match refusal {
-                Refusal::TooManyAgents => 64,
+                Refusal::TooManyAgents => MOST_AGENTS,
                 Refusal::WrongLength { numbers } => numbers,
-                Refusal::TooManyFrames => 1_048_576,
+                Refusal::TooManyFrames => MOST_FRAMES,
                 Refusal::OutOfReach { place } => place,
             },
         }

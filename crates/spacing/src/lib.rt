@@ -8,6 +8,11 @@ pub mod pairs;
 pub mod tallies;
 pub mod whole_root;
 
+// At most so many agents, and so many frames.
+pub const MOST_AGENTS: usize = 64;
+
+pub const MOST_FRAMES: usize = 1_048_576;
+
 // Why a tally is not begun as asked, or a frame is not taken.
 pub enum Refusal {
     TooManyAgents,

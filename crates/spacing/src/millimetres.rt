@@ -1,5 +1,5 @@
 // Whole millimetres of a component: 1000 times its exact value, nearest, ties to even. The definition is in
-// `specs/Millimetres.antt`, and what these functions promise in `specs/MillimetresParts.antt`.
+// `specs/Millimetres.antt`, and what these functions promise in `specs/parts/Millimetres.antt`.
 //
 // The product is never rounded before the end: a significand of 24 binary digits times 1000 has at most 34, and the
 // exponent says how many of them lie below one millimetre.
@@ -7,7 +7,7 @@ ghost use mathlib.Core.Path.{_≡_};
 ghost use mathlib.Core.Bool.{false};
 ghost use Prim.Native.Nat.{_/_, _≤_};
 ghost use Rattle.spacing.specs.Millimetres.{millimetres};
-ghost use Rattle.spacing.specs.MillimetresParts.{sizeOf, fromCorner};
+ghost use Rattle.spacing.specs.parts.Millimetres.{sizeOf, fromCorner};
 ghost use Rattle.spacing.specs.Frame.{outOfReach};
 
 // How far a position may be from 0 along an axis, in millimetres: 16384 metres.

@@ -1,10 +1,12 @@
 // The pairs of a frame: their squared distances, by the first agent and then the second. The definitions are in
-// `specs/Frame.antt`, and what these functions promise each other in `specs/PairsParts.antt`.
+// `specs/Frame.antt`, and what these functions promise each other in `specs/parts/Pairs.antt`.
 ghost use mathlib.Core.Path.{_≡_};
 ghost use Prim.Native.Nat.{suc, _+_, _-_, _*_, _≤_, _<_};
-ghost use Rattle.spacing.specs.MillimetresParts.{reach};
+ghost use Rattle.spacing.specs.Answers.{mostAgents};
+ghost use Rattle.spacing.specs.parts.Millimetres.{reach};
 ghost use Rattle.spacing.specs.Frame.{positions};
-ghost use Rattle.spacing.specs.PairsParts.{Sound, Along, Near, Squares, Placed, AllPlaced, spotAt, squaredBetween, squaredAt, listed, withSquare, glanced, secondOf, withRow, withPairs, startAt};
+ghost use Rattle.spacing.specs.parts.Pairs.{FitFrame, Along, Near, Squares, Placed, AllPlaced, spotAt, squaredBetween, squaredAt, listed, withSquare, glanced, secondOf, withRow, withPairs, startAt};
+use super::MOST_AGENTS;
 use super::millimetres::from_corner;
 
 // The smallest squared distance so far with its pair, and how many were below the limit.
@@ -16,11 +18,11 @@ pub(crate) struct Running {
 }
 
 // Every agent's millimetres along one axis.
-fn along(frame: &[f32], axis: usize, agents: usize) -> [u32; 64]
-    requires { ⌜ Sound agents (now frame) × (axis < 3) ⌝ }
+fn along(frame: &[f32], axis: usize, agents: usize) -> [u32; MOST_AGENTS]
+    requires { ⌜ FitFrame agents (now frame) × (axis < 3) ⌝ }
     ensures { λ r. ⌜ Along agents axis (now (frame .entry)) r ⌝ }
 {
-    let mut places = [0u32; 64];
+    let mut places = [0u32; MOST_AGENTS];
     let mut agent = 0;
     while agent < agents {
         places[agent] = from_corner(frame[3 * agent + axis]);
@@ -46,12 +48,17 @@ fn dot(x: u32, y: u32, z: u32, x2: u32, y2: u32, z2: u32) -> u64
 }
 
 // Every agent's squared distance from the corner.
-fn from_corner_squared(xs: &[u32; 64], ys: &[u32; 64], zs: &[u32; 64], agents: usize) -> [u64; 64]
-    requires { ⌜ agents ≤ 64 ⌝ }
+fn from_corner_squared(
+    xs: &[u32; MOST_AGENTS],
+    ys: &[u32; MOST_AGENTS],
+    zs: &[u32; MOST_AGENTS],
+    agents: usize,
+) -> [u64; MOST_AGENTS]
+    requires { ⌜ agents ≤ mostAgents ⌝ }
     requires { ⌜ Near agents (now xs) × Near agents (now ys) × Near agents (now zs) ⌝ }
     ensures { λ r. ⌜ Squares agents (now (xs .entry)) (now (ys .entry)) (now (zs .entry)) r ⌝ }
 {
-    let mut squares = [0u64; 64];
+    let mut squares = [0u64; MOST_AGENTS];
     let mut agent = 0;
     while agent < agents {
         let x = xs[agent];
@@ -72,13 +79,13 @@ struct Spot {
 }
 
 fn spot_at(
-    xs: &[u32; 64],
-    ys: &[u32; 64],
-    zs: &[u32; 64],
-    squares: &[u64; 64],
+    xs: &[u32; MOST_AGENTS],
+    ys: &[u32; MOST_AGENTS],
+    zs: &[u32; MOST_AGENTS],
+    squares: &[u64; MOST_AGENTS],
     agent: usize,
 ) -> Spot
-    requires { ⌜ agent < 64 ⌝ }
+    requires { ⌜ agent < mostAgents ⌝ }
     ensures { λ r. ⌜ r ≡ spotAt (now (xs .entry)) (now (ys .entry)) (now (zs .entry)) (now (squares .entry)) agent ⌝ }
 {
     Spot {
@@ -122,20 +129,20 @@ fn with_square(glance: Glance, squared: u64, limit: u64) -> Glance
 
 // A glance at the pairs of one agent with those after it. It names no pair, so that its loop has no way but one.
 fn glance_along(
-    xs: &[u32; 64],
-    ys: &[u32; 64],
-    zs: &[u32; 64],
-    squares: &[u64; 64],
+    xs: &[u32; MOST_AGENTS],
+    ys: &[u32; MOST_AGENTS],
+    zs: &[u32; MOST_AGENTS],
+    squares: &[u64; MOST_AGENTS],
     agents: usize,
     first: usize,
     limit: u64,
     start: Glance,
 ) -> Glance
-    requires { ⌜ (agents ≤ 64) × (first < agents) × (start .below ≤ 64 * first) ⌝ }
+    requires { ⌜ (agents ≤ mostAgents) × (first < agents) × (start .below ≤ mostAgents * first) ⌝ }
     requires { ⌜ AllPlaced agents (now xs) (now ys) (now zs) (now squares) ⌝ }
     ensures { λ r. ⌜ r ≡ glanced limit start
         (listed (agents - suc first) (suc first) (squaredAt (now (xs .entry)) (now (ys .entry)) (now (zs .entry)) first)) ⌝ }
-    ensures { λ r. ⌜ r .below ≤ 64 * suc first ⌝ }
+    ensures { λ r. ⌜ r .below ≤ mostAgents * suc first ⌝ }
 {
     let here = spot_at(xs, ys, zs, squares, first);
     let mut glance = start;
@@ -150,15 +157,15 @@ fn glance_along(
 
 // The first agent after `first` that is so far from it; the number of agents where none is.
 fn second_of(
-    xs: &[u32; 64],
-    ys: &[u32; 64],
-    zs: &[u32; 64],
-    squares: &[u64; 64],
+    xs: &[u32; MOST_AGENTS],
+    ys: &[u32; MOST_AGENTS],
+    zs: &[u32; MOST_AGENTS],
+    squares: &[u64; MOST_AGENTS],
     agents: usize,
     first: usize,
     least: u64,
 ) -> usize
-    requires { ⌜ (agents ≤ 64) × (first < agents) ⌝ }
+    requires { ⌜ (agents ≤ mostAgents) × (first < agents) ⌝ }
     requires { ⌜ AllPlaced agents (now xs) (now ys) (now zs) (now squares) ⌝ }
     ensures { λ r. ⌜ r ≡ secondOf least (suc first)
         (listed (agents - suc first) (suc first) (squaredAt (now (xs .entry)) (now (ys .entry)) (now (zs .entry)) first)) ⌝ }
@@ -178,20 +185,20 @@ fn second_of(
 // The pairs of one agent with those after it. Which pair is the smallest is looked for only where one is smaller than
 // all before.
 fn with_row(
-    xs: &[u32; 64],
-    ys: &[u32; 64],
-    zs: &[u32; 64],
-    squares: &[u64; 64],
+    xs: &[u32; MOST_AGENTS],
+    ys: &[u32; MOST_AGENTS],
+    zs: &[u32; MOST_AGENTS],
+    squares: &[u64; MOST_AGENTS],
     agents: usize,
     first: usize,
     limit: u64,
     start: Running,
 ) -> Running
-    requires { ⌜ (agents ≤ 64) × (first < agents) × (start .below ≤ 64 * first) ⌝ }
+    requires { ⌜ (agents ≤ mostAgents) × (first < agents) × (start .below ≤ mostAgents * first) ⌝ }
     requires { ⌜ AllPlaced agents (now xs) (now ys) (now zs) (now squares) ⌝ }
     ensures { λ r. ⌜ r ≡ withRow limit start first (suc first)
         (listed (agents - suc first) (suc first) (squaredAt (now (xs .entry)) (now (ys .entry)) (now (zs .entry)) first)) ⌝ }
-    ensures { λ r. ⌜ r .below ≤ 64 * suc first ⌝ }
+    ensures { λ r. ⌜ r .below ≤ mostAgents * suc first ⌝ }
 {
     let bound = Glance {
         least: start.squared,
@@ -217,7 +224,7 @@ fn with_row(
 
 // All pairs of a frame, from a bound that only a smaller distance replaces.
 pub(crate) fn all_pairs(frame: &[f32], agents: usize, bound: u64, limit: u64) -> Running
-    requires { ⌜ Sound agents (now frame) ⌝ }
+    requires { ⌜ FitFrame agents (now frame) ⌝ }
     ensures { λ r. ⌜ r ≡ withPairs limit (startAt bound) 0 (positions (now (frame .entry))) ⌝ }
 {
     let xs = along(frame, 0, agents);

@@ -6,9 +6,11 @@ ghost use Prim.Native.Nat.{_+_, _≤_, _<_, min};
 ghost use Rattle.spacing.specs.Frame.{outOfReach};
 ghost use Rattle.spacing.specs.Answers.{mostAgents, mostFrames};
 ghost use Rattle.spacing.specs.Tally.{fresh, begun, withinReach, frameAnswer, fullest, reportWith, steppedBy};
-ghost use Rattle.spacing.specs.TallyParts.{boundOf, smallestAfter};
-ghost use Rattle.spacing.specs.PairsParts.{Sound};
+ghost use Rattle.spacing.specs.parts.Tally.{boundOf, smallestAfter};
+ghost use Rattle.spacing.specs.parts.Pairs.{FitFrame};
 use super::Answer;
+use super::MOST_AGENTS;
+use super::MOST_FRAMES;
 use super::Refusal;
 use super::Report;
 use super::Sighting;
@@ -49,7 +51,11 @@ fn within_reach(frame: &[f32]) -> Answer
 fn agent_count(agents: usize) -> usize
     ensures { λ r. ⌜ r ≡ min agents mostAgents ⌝ }
 {
-    if agents < 64 { agents } else { 64 }
+    if agents < MOST_AGENTS {
+        agents
+    } else {
+        MOST_AGENTS
+    }
 }
 
 // 14, then 9, then 19.
@@ -62,7 +68,7 @@ fn frame_answer(agents: usize, frames: usize, frame: &[f32]) -> Answer
             numbers: frame.len(),
         });
     }
-    if 1_048_576 <= frames {
+    if MOST_FRAMES <= frames {
         return Answer::Refused(Refusal::TooManyFrames);
     }
     within_reach(frame)
@@ -105,7 +111,7 @@ fn sum(below: u64, more: u64) -> u64
 }
 
 fn report_with(report: Report, agents: usize, limit: u32, frame: &[f32]) -> Report
-    requires { ⌜ Sound agents (now frame) × (report .frames < mostFrames) ⌝ }
+    requires { ⌜ FitFrame agents (now frame) × (report .frames < mostFrames) ⌝ }
     ensures { λ r. ⌜ r ≡ reportWith limit report (now (frame .entry)) ⌝ }
 {
     let smallest = report.smallest;
@@ -159,7 +165,7 @@ impl Tally {
     pub fn begin(agents: usize, limit: u32) -> Tallied
         ensures { λ r. ⌜ r ≡ begun agents limit ⌝ }
     {
-        if agents <= 64 {
+        if agents <= MOST_AGENTS {
             Tallied {
                 answer: Answer::Done,
                 tally: fresh(agents, limit),

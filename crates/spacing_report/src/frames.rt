@@ -9,6 +9,9 @@ use spacing::Tally;
 use spacing::tallies::stepped;
 use vectors::number::from_word;
 
+// The bytes of an agent in a frame: three numbers.
+const AGENT_BYTES: usize = 12;
+
 // The most frames that a tally takes.
 const MOST_FRAMES: usize = 1_048_576;
 
@@ -86,7 +89,7 @@ fn taken(tally: Tally, bytes: &[u8], agents: usize) -> Tallied
         tally,
     };
     let mut at = 0;
-    while 12 * agents <= bytes.len() - at {
+    while AGENT_BYTES * agents <= bytes.len() - at {
         decode(bytes, at, numbers, &mut frame);
         let so_far = last.tally;
         last = stepped(so_far, &frame[0..numbers]);
@@ -94,7 +97,7 @@ fn taken(tally: Tally, bytes: &[u8], agents: usize) -> Tallied
         if !is_done(answer) {
             return last;
         }
-        at += 12 * agents;
+        at += AGENT_BYTES * agents;
     }
     last
 }
@@ -144,7 +147,7 @@ pub(crate) fn outcome_of(input: i32, tally: Tally, agents: usize) -> Outcome
         return outcome_of_none(input, tally);
     }
     let mut space = io::large_buffer();
-    let size = room(12 * agents);
+    let size = room(AGENT_BYTES * agents);
     let mut running = tally;
     let mut turns = 0;
     while turns <= MOST_FRAMES {
@@ -161,7 +164,7 @@ pub(crate) fn outcome_of(input: i32, tally: Tally, agents: usize) -> Outcome
             return Outcome::Refused(answer, report.frames);
         }
         if bytes < size {
-            return end(running, bytes % (12 * agents));
+            return end(running, bytes % (AGENT_BYTES * agents));
         }
         turns += 1;
     }

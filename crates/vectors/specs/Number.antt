@@ -3,8 +3,8 @@
 use Prim.Native.Nat.{ℕ}
 use mathlib.Core.Bool.{Bool, true, false, _||_, cond}
 use lib.Ieee.{Float, nan, inf, fin, binary32, add, sub, mul, div, lt, le, eq, isNan, ofBits, toBits}
-use Rattle.vectors.specs.declared.number.Clamped.{Clamped}
-use Rattle.vectors.specs.declared.number.Clamped.the-variants.{Value, BadBounds}
+use Rattle.vectors.specs.declared.Clamped.{Clamped}
+use Rattle.vectors.specs.declared.Clamped.the-variants.{Value, BadBounds}
 
 -- ---- the operators of Rust's `f32`, under names that every definition uses
 

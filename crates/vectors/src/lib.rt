@@ -10,3 +10,9 @@ pub struct Vec3 {
     pub y: f32,
     pub z: f32,
 }
+
+// What a clamp answers: the value, or that its lower bound is not `<=` its upper, where Rust panics.
+pub enum Clamped {
+    Value(f32),
+    BadBounds,
+}

@@ -2,15 +2,10 @@
 // shape". The definitions are in `specs/Number.antt`.
 ghost use mathlib.Core.Path.{_≡_};
 ghost use Rattle.vectors.specs.Number.{finite, larger, smaller, clamped, plusZero, ofWord, toWord};
+use super::Clamped;
 
 // Rust's `RVO_EPSILON`, 0x3727C5AC.
 pub const RVO_EPSILON: f32 = 0.00001;
-
-// What a clamp answers: the value, or that its lower bound is not `<=` its upper, where Rust panics.
-pub enum Clamped {
-    Value(f32),
-    BadBounds,
-}
 
 // Whether x is neither a NaN nor an infinity.
 pub fn is_finite(x: f32) -> bool

@@ -1,3 +1,4 @@
+-- Lengths that do not fit leave all that was lent as it was, and where they fit each of the five results is what the velocity call's reply gives.
 use mathlib.Core.Path.{_≡_, refl, sym, _∙_}
 use mathlib.Core.Bool.{Bool, true, false, _&&_}
 use mathlib.Core.List.{List}

@@ -1,3 +1,4 @@
+-- A slice of three numbers is the vector's components after three stores, and a list of any other length is ruled out.
 use mathlib.Core.Path.{_≡_, refl}
 use mathlib.Core.List.{List, [], _∷_}
 use native.Mathlib.Omega.{arith}

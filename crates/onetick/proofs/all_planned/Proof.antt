@@ -1,3 +1,4 @@
+-- `onetick::all_planned` is safe and ends: the scratch keeps its 756 numbers, and the measure is the agents that are left.
 use mathlib.Core.Path.{_≡_}
 use Prim.Native.Nat.{_-_}
 use lib.ListN.{length}

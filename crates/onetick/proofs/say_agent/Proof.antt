@@ -1,3 +1,4 @@
+-- `onetick::say_agent` is safe and ends: six of nineteen words are read, and the measure is how many are left to say.
 use mathlib.Core.Path.{_≡_}
 use Prim.Native.Nat.{_-_}
 use lib.ListN.{length}

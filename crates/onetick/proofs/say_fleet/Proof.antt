@@ -1,3 +1,4 @@
+-- `onetick::say_fleet` is safe and ends: the index stays within the count, and the measure is the agents that are left.
 use Prim.Native.Nat.{_-_, _≤_}
 use borrow.Author.Needs.{needs}
 use Rattle.onetick.proofs.say_fleet.Statement.{statement}

@@ -1,3 +1,4 @@
+-- `onetick::whole_length` is safe and ends whatever the input does: the measure is the turns that are left.
 use Prim.Native.Nat.{_≤_}
 use borrow.Author.Needs.{needs}
 use Rattle.onetick.proofs.whole_length.Statement.{statement}

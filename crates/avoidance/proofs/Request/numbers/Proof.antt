@@ -1,3 +1,4 @@
+-- The code's array and the definition's list have the same seventeen numbers in the same order, so they agree by computing.
 use mathlib.Core.Path.{refl}
 use Rattle.avoidance.specs.Request.{requestNumbers}
 use Rattle.avoidance.proofs.Request.numbers.Statement.{statement}

@@ -1,3 +1,4 @@
+-- With 17 numbers every field is read within the slice and is the definition's; any other length is `BadLength`.
 use borrow.Author.Tests.{eq-eqb, ne-eqb}
 use borrow.Author.Needs.{needs}
 use Rattle.avoidance.specs.Request.{requestAt, readRequest}

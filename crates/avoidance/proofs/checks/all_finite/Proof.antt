@@ -1,3 +1,4 @@
+-- While `all` holds, the first bad number of what is left is that of the whole, and at the end nothing is left.
 use mathlib.Core.Path.{_≡_, refl, sym, ap, _∙_}
 use mathlib.Core.Bool.{true, not, false≢true}
 use mathlib.Core.Logic.{⊎-elim}

@@ -1,3 +1,4 @@
+-- Each turn passes over a neighbour's eight numbers: six may be anything, and neither of the last two is negative while `all` holds.
 use mathlib.Core.Path.{_≡_, refl, sym, ap, _∙_}
 use mathlib.Core.Bool.{Bool, true, false, cond, false≢true}
 use mathlib.Core.List.{List}

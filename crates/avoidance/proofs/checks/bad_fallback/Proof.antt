@@ -1,3 +1,4 @@
+-- `dot` ensures the square that both tests compare, and the first of them decides the definition's `||` before the second.
 use borrow.Author.Needs.{needs}
 use Rattle.avoidance.specs.Checks.{badFallback}
 use Rattle.avoidance.proofs.checks.bad_fallback.Statement.{statement}

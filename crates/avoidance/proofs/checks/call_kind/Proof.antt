@@ -1,3 +1,4 @@
+-- Eight returns: among the neighbours' places the remainder decides, and among the request's each test that holds names the place itself.
 use borrow.Author.Tests.{lt-ltb, le-ltb, le-leb, lt-leb, ne-eqb}
 use Rattle.avoidance.specs.Checks.{callKind}
 use Rattle.avoidance.proofs.checks.call_kind.Statement.{statement}

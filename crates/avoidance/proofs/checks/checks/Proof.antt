@@ -1,3 +1,4 @@
+-- Seven returns, each with the outcomes of the tests before it, which decide the definition's chain of refusals up to there.
 use borrow.Author.Tests.{eq-eqb, ne-eqb, lt-ltb, le-ltb}
 use borrow.Author.Needs.{needs}
 use Rattle.avoidance.specs.Checks.{checks, badNeighbours}

@@ -1,3 +1,4 @@
+-- The walk over the numbers stops at the first bad one: what is left to look at has the answer of the whole.
 use mathlib.Core.Path.{_≡_, refl, sym, ap, _∙_}
 use mathlib.Core.Bool.{true, false, cond}
 use mathlib.Core.List.{List, _∷_}

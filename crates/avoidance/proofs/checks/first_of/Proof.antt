@@ -1,3 +1,4 @@
+-- The first bad number is the request's own, or else the neighbours': the search of two lists joined is one search after the other.
 use mathlib.Core.Path.{_≡_, sym, ap, _∙_}
 use mathlib.Core.List.{List}
 use lib.Ieee.{Float}

@@ -1,3 +1,4 @@
+-- One case for each thing asked: the denial of `is_finite`, or `is_outside` of the kind that `call_kind` gives the place.
 use borrow.Author.Needs.{needs}
 use Rattle.avoidance.specs.Checks.{badNumber}
 use Rattle.avoidance.proofs.checks.is_bad.Statement.{statement}

@@ -1,3 +1,4 @@
+-- The answer is false only where both tests failed: the first way out says true, and the other hands back the second test.
 use mathlib.Core.Bool.{true≢false}
 use borrow.Author.Needs.{needs}
 use Rattle.avoidance.proofs.checks.is_negative.Statement.{statement}

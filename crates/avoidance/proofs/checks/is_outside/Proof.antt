@@ -1,3 +1,4 @@
+-- `is_outside` has one arm for each kind of number, as the definition has one line.
 use borrow.Author.Needs.{needs}
 use Rattle.avoidance.specs.Checks.{outside}
 use Rattle.avoidance.proofs.checks.is_outside.Statement.{statement}

@@ -1,3 +1,4 @@
+-- What is asked picks the walk, and what `all_finite` or `all_in_range` promises where it says true is the promise here.
 use borrow.Author.Needs.{needs}
 use Rattle.avoidance.proofs.checks.none_bad.Statement.{statement}
 use Rattle.avoidance.proofs.checks.none_bad.Tie as tie

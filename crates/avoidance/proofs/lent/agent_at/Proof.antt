@@ -1,3 +1,4 @@
+-- Two vectors by `vector_at` and two numbers by reading, each the one found after the first `at` numbers are dropped.
 use lib.Seq.{getD-drop, drop-drop}
 use borrow.Author.Needs.{needs}
 use Rattle.avoidance.specs.Lent.{agentAt}

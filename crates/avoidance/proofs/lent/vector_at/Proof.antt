@@ -1,3 +1,4 @@
+-- The numbers at `at` and at the next two places are the first three of what is left when `at` numbers are dropped.
 use native.Mathlib.Nat.{add-zero}
 use lib.Seq.{getD-drop}
 use borrow.Author.Needs.{needs}

@@ -1,3 +1,4 @@
+-- The scaled direction past both tests and the fallback where either fails: three returns for the definition's one `&&`.
 use borrow.Author.Needs.{needs}
 use Rattle.avoidance.specs.Neighbour.{collisionNormal}
 use Rattle.avoidance.proofs.neighbour.collision_normal.Statement.{statement}

@@ -1,3 +1,4 @@
+-- The quadratic's coefficients and its smaller solution, an operation at a time.
 use borrow.Author.Needs.{needs}
 use Rattle.avoidance.specs.Neighbour.{coneTime}
 use Rattle.avoidance.proofs.neighbour.cone_time.Statement.{statement}

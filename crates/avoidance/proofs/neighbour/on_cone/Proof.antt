@@ -1,3 +1,4 @@
+-- Eight calls, from the cone's time to the last difference, ensure the normal, the value and the distance whose sign is tested.
 use borrow.Author.Needs.{needs}
 use Rattle.avoidance.specs.Neighbour.{onCone}
 use Rattle.avoidance.proofs.neighbour.on_cone.Statement.{statement}

@@ -1,3 +1,4 @@
+-- The projection onto the cut-off sphere, an operation at a time: four calls ensure its normal, its value and the square that is compared.
 use borrow.Author.Needs.{needs}
 use Rattle.avoidance.specs.Neighbour.{onSphere}
 use Rattle.avoidance.proofs.neighbour.on_sphere.Statement.{statement}

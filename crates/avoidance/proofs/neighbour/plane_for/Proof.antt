@@ -1,3 +1,4 @@
+-- The half-space's point and normal, an operation at a time: the relation, its projection, our share of the way and the sum.
 use borrow.Author.Needs.{needs}
 use Rattle.avoidance.specs.Neighbour.{planeFor, relationOf}
 use Rattle.avoidance.proofs.neighbour.plane_for.Statement.{statement}

@@ -1,3 +1,4 @@
+-- One test parts the free branch from the collision, and on each side the function called ensures the projection.
 use borrow.Author.Needs.{needs}
 use Rattle.avoidance.specs.Neighbour.{projected}
 use Rattle.avoidance.proofs.neighbour.projected.Statement.{statement}

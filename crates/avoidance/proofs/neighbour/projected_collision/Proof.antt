@@ -1,3 +1,4 @@
+-- Centre, normal and value on the sphere at the end of the step, an operation at a time.
 use borrow.Author.Needs.{needs}
 use Rattle.avoidance.specs.Neighbour.{projectedCollision}
 use Rattle.avoidance.proofs.neighbour.projected_collision.Statement.{statement}

@@ -1,3 +1,4 @@
+-- The sphere is reached past both nested tests and the cone where either fails, which together is the definition's one `&&`.
 use mathlib.Core.Logic.{⊎-elim}
 use borrow.Author.Needs.{needs}
 use Rattle.avoidance.specs.Neighbour.{projectedFree}

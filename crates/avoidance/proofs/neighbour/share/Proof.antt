@@ -1,3 +1,4 @@
+-- The quotient inside the obstacle and 1 outside it: one case for each side of the test.
 use Rattle.avoidance.specs.Neighbour.{share}
 use Rattle.avoidance.proofs.neighbour.share.Statement.{statement}
 use Rattle.avoidance.proofs.neighbour.share.Tie as tie

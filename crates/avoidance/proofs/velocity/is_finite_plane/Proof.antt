@@ -1,3 +1,4 @@
+-- The point is tested before the normal, as the definition's `&&` is decided from the left.
 use borrow.Author.Needs.{needs}
 use Rattle.avoidance.specs.Velocity.{finitePlane}
 use Rattle.avoidance.proofs.velocity.is_finite_plane.Statement.{statement}

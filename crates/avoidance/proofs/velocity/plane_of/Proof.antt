@@ -1,3 +1,4 @@
+-- `agent_at` reads the neighbour that stands behind those before it, and `plane_for` makes the definition's plane of it.
 use borrow.Author.Needs.{needs}
 use Rattle.avoidance.specs.Velocity.{planeOf}
 use Rattle.avoidance.proofs.velocity.plane_of.Statement.{statement}

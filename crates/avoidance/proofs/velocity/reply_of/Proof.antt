@@ -1,3 +1,4 @@
+-- A value that is not finite is no velocity; past that, one case for each outcome, with the velocity that `plus_zeros` ensures.
 use borrow.Author.Tests.{not-true, not-false}
 use borrow.Author.Needs.{needs}
 use Rattle.avoidance.specs.Velocity.{replyOf, answered}

@@ -1,3 +1,4 @@
+-- At each turn the planes passed stand at the beginning of the scratch, and the first one left that is not finite is that of the whole list.
 use mathlib.Core.Path.{_≡_, refl, sym, ap, _∙_, subst}
 use mathlib.Core.Bool.{Bool}
 use mathlib.Core.List.{List, [], _∷_, _++_}
@@ -15,7 +16,7 @@ use Rattle.refusals.specs.Conditions.{firstBad}
 use Rattle.refusals.proofs.Conditions.{no-place}
 use Rattle.solver.specs.Lent.{withPlane, numbersOfPlanes}
 use Rattle.solver.proofs.Written.{with-room, written-length}
-use Rattle.solver.proofs.LentPlanes.{written-next}
+use Rattle.solver.proofs.LentPlanes.{flat-none, written-next}
 use Rattle.avoidance.specs.Velocity.{planeOf, planesFrom, finitePlane, badPlane}
 use Rattle.avoidance.proofs.velocity.Planes.{fromOn, from-all, from-length, from-more, found-here, found-later, found-none}
 use Rattle.avoidance.proofs.velocity.write_planes.Statement.{statement}
@@ -35,8 +36,8 @@ finite-is : (c : tie.After-is-finite-plane Inv-loop μ-loop)
 finite-is c = sym (c .is-finite-plane .ensures ∙ ap finitePlane (c .before .plane-of .ensures))
 
 loop-holds : tie.Need-loop-holds Inv-loop μ-loop
-unfolding planesFrom numbersOfPlanes
-loop-holds c = (omega arith, refl, refl, ap (firstBad badPlane 0) (from-all (c .before .before .args .request) (length (now (c .before .before .args .neighbours)) / 8) (now (c .before .before .args .neighbours))))
+unfolding planesFrom
+loop-holds c = (omega arith, refl, sym (ap (λ (xs : List Float). xs ++ now (c .before .before .args .scratch)) flat-none), ap (firstBad badPlane 0) (from-all (c .before .before .args .request) (length (now (c .before .before .args .neighbours)) / 8) (now (c .before .before .args .neighbours))))
 
 plane-of-requires : tie.Need-plane-of-requires Inv-loop μ-loop
 plane-of-requires c κs = omega arith

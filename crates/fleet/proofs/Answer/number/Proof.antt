@@ -1,3 +1,4 @@
+-- Done is 0, a plan has its reply's number and a refusal its own: one case for each arm.
 use Rattle.fleet.specs.Answer.{number}
 use borrow.Author.Needs.{needs}
 use Rattle.fleet.proofs.Answer.number.Statement.{statement}

@@ -1,3 +1,4 @@
+-- One case for each answer: 0 where the call is done, and else the place of the plan's reply or of the refusal.
 use Rattle.fleet.specs.Answer.{placeOf}
 use borrow.Author.Needs.{needs}
 use Rattle.fleet.proofs.Answer.place.Statement.{statement}

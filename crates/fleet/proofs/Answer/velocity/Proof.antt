@@ -1,3 +1,4 @@
+-- Only a plan has a velocity: the other arm is met by two answers, for both of which the definition has zeros.
 use mathlib.Core.Path.{_≡_, refl, _∙_}
 use mathlib.Core.List.{[], _∷_}
 use denote.Enum.Declared

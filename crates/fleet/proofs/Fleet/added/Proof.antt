@@ -1,3 +1,4 @@
+-- Fewer than 64 agents put the count in range, and a record stored right behind the agents makes their list one longer.
 use mathlib.Core.Path.{_≡_, ap, _∙_}
 use Prim.Native.Nat.{_<_}
 use native.Mathlib.Numerals.{add-one}

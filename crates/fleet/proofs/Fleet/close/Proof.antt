@@ -1,3 +1,4 @@
+-- The tick decides: where none is open the call is refused, and an open one is closed by `close_open` with its time step.
 use mathlib.Core.Path.{sym, ap, _∙_}
 use Rattle.fleet.specs.declared.Tick.{Tick}
 use Rattle.fleet.specs.Tick.{closeIn, closeCall}

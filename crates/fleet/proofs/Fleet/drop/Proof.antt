@@ -1,3 +1,4 @@
+-- Outside a tick the call is refused, and in one `ended` is given the standing records, so that nobody moves.
 use mathlib.Core.Path.{ap, _∙_}
 use Rattle.fleet.specs.Table.{agents}
 use Rattle.fleet.specs.Tick.{opened, dropCall}

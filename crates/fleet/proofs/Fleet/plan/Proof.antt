@@ -1,3 +1,4 @@
+-- Answer and scratch by the tick that the fleet is in: refused and untouched outside one, and else what `plan_open` ensures.
 use mathlib.Core.Path.{_≡_, sym, ap, _∙_}
 use mathlib.Core.List.{List}
 use Prim.Native.Nat.{ℕ}

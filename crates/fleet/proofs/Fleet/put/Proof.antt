@@ -1,3 +1,4 @@
+-- A refusal hands the fleet back, and a verdict that passed says that the index is an agent's, which `with_record` requires.
 use mathlib.Core.Path.{_≡_, sym, ap, _∙_}
 use Prim.Native.Nat.{ℕ}
 use lib.ListN.{length, length-map}

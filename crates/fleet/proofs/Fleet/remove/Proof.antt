@@ -1,3 +1,4 @@
+-- A refusal hands the fleet back; past both checks the index is an agent's, and `removed` makes the fleet without it.
 use mathlib.Core.Path.{_≡_, sym, ap, _∙_}
 use Prim.Native.Nat.{ℕ}
 use lib.ListN.{length, length-map}

@@ -1,3 +1,4 @@
+-- The records without the one at the index, cut to one fewer than the count in range, are the agents without it.
 use mathlib.Core.Path.{_≡_, sym, ap, _∙_}
 use mathlib.Core.List.{List, [], _∷_, _++_}
 use Prim.Native.Nat.{ℕ, suc, _-_, _<_, min}

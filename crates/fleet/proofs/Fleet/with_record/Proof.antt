@@ -1,3 +1,4 @@
+-- The index of an agent is below the count, so a record stored there among all is one set among the agents.
 use mathlib.Core.Path.{_≡_, ap, _∙_}
 use Prim.Native.Nat.{_<_}
 use native.Mathlib.Omega.{arith}

@@ -1,3 +1,4 @@
+-- The reply is the answer, and the fleet beside it is the one that `fleet_after` ensures.
 use Rattle.fleet.specs.Plan.{answeredBy}
 use borrow.Author.Needs.{needs}
 use Rattle.fleet.proofs.plan.answered.Statement.{statement}

@@ -1,3 +1,4 @@
+-- The plans become what `plans_after` ensures, and the rest of the fleet stays as it was.
 use Rattle.fleet.specs.Plan.{fleetAfter}
 use borrow.Author.Needs.{needs}
 use Rattle.fleet.proofs.plan.fleet_after.Statement.{statement}

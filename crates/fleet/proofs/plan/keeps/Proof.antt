@@ -1,3 +1,4 @@
+-- Each rule's case compares the squared distance that the calls ensure with q squared: above it, or at most that.
 use Rattle.fleet.specs.Plan.{keeps}
 use borrow.Author.Needs.{needs}
 use Rattle.fleet.proofs.plan.keeps.Statement.{statement}

@@ -1,3 +1,4 @@
+-- Of the agents passed, those that the rule keeps stand in the list: a turn adds one, or passes over one not kept or the agent itself.
 use mathlib.Core.Path.{_≡_, refl, sym, ap, _∙_, subst}
 use mathlib.Core.Bool.{true, false}
 use mathlib.Core.Logic.{⊎-elim}

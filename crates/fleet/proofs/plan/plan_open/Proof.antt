@@ -1,3 +1,4 @@
+-- An index with no agent is refused and leaves the scratch untouched; otherwise answer and scratch are those of `reply_for` on the agents.
 use mathlib.Core.Path.{_≡_, ap, _∙_}
 use mathlib.Core.Bool.{true, false}
 use mathlib.Core.List.{List}

@@ -1,3 +1,4 @@
+-- Eight numbers behind those of the neighbours before, one index behind theirs and a count of one more, all within the room there is.
 use Rattle.fleet.specs.parts.Plan.{withNeighbour}
 use borrow.Author.Needs.{needs}
 use Rattle.fleet.proofs.plan.with_neighbour.Statement.{statement}

@@ -1,3 +1,4 @@
+-- An open tick, a full table and then the record's own checks, in the order in which the definition chains them.
 use borrow.Author.Tests.{lt-ltb, le-ltb}
 use borrow.Author.Needs.{needs}
 use Rattle.refusals.specs.Verdict.{_⊳_}

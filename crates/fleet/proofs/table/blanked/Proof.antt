@@ -1,3 +1,4 @@
+-- The loop writes blank records from `count` on: what stands before the index, filled up with blank ones, stays the same list.
 use mathlib.Core.Path.{_≡_, refl, sym, _∙_}
 use Prim.Native.Nat.{_-_}
 use lib.ListN.{length, length-set}

@@ -1,3 +1,4 @@
+-- The new fleet and the answer done are what `settled` computes to for a verdict that passed.
 use mathlib.Core.Path.{refl}
 use Rattle.fleet.specs.Table.{settled}
 use Rattle.fleet.proofs.table.done.Statement.{statement}

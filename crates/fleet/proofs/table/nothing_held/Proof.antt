@@ -1,3 +1,4 @@
+-- The array of 64 slots that hold nothing is the definition's list, by computing.
 use mathlib.Core.Path.{refl}
 use Rattle.fleet.specs.Table.{nothingHeld}
 use Rattle.fleet.proofs.table.nothing_held.Statement.{statement}

@@ -1,3 +1,4 @@
+-- An open tick, then an index past the agents, then what the record's own verdict says: one return for each.
 use borrow.Author.Tests.{lt-ltb, le-ltb}
 use borrow.Author.Needs.{needs}
 use Rattle.refusals.specs.Verdict.{_⊳_}

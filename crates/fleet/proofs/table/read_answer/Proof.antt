@@ -1,3 +1,4 @@
+-- One test of the index against the count, whose two sides are the two answers.
 use borrow.Author.Tests.{lt-ltb, le-ltb}
 use Rattle.fleet.specs.Table.{answerTo}
 use Rattle.fleet.proofs.table.read_answer.Statement.{statement}

@@ -1,3 +1,4 @@
+-- The fleet as given and the answer refused are what `settled` computes to for that refusal.
 use mathlib.Core.Path.{refl}
 use Rattle.fleet.specs.Table.{settled}
 use Rattle.fleet.proofs.table.refused.Statement.{statement}

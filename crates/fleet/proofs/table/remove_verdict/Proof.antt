@@ -1,3 +1,4 @@
+-- Two checks, the tick's and then the index's: a return for each refusal and one past both.
 use borrow.Author.Tests.{lt-ltb, le-ltb}
 use borrow.Author.Needs.{needs}
 use Rattle.refusals.specs.Verdict.{_⊳_}

@@ -1,3 +1,4 @@
+-- The records before `at` and those that stood after it are at every turn the list without one, and a blank one fills the last place.
 use mathlib.Core.Path.{_≡_, refl, sym, ap, _∙_}
 use mathlib.Core.List.{List, _∷_, _++_, append-nil}
 use Prim.Native.Nat.{ℕ, suc, _+_, _-_, _≤_, _<_}

@@ -1,3 +1,4 @@
+-- The loop moves an agent at a time: the records moved so far, with what the plans make of those left, are the definition's list.
 use mathlib.Core.Path.{_≡_, refl, sym, _∙_}
 use Prim.Native.Nat.{_-_, _<_, _≤_}
 use lib.ListN.{length, length-set}

@@ -1,3 +1,4 @@
+-- An agent without a plan stays at its position, and one with a plan goes where `mul` and `add` ensure that its velocity takes it.
 use Rattle.fleet.specs.Tick.{arrival}
 use borrow.Author.Needs.{needs}
 use Rattle.fleet.proofs.ticks.arrival.Statement.{statement}

@@ -1,3 +1,4 @@
+-- The verdict is that on the agents, and where it passes the first `count` of all the records moved are the agents moved.
 use mathlib.Core.Path.{_≡_, sym, ap, _∙_}
 use mathlib.Core.List.{List}
 use Prim.Native.Nat.{ℕ}

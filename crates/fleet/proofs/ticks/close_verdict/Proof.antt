@@ -1,3 +1,4 @@
+-- An agent without a plan is refused before one astray, and as many plans are looked at as there are records taken.
 use mathlib.Core.Path.{_≡_, sym, _∙_}
 use Prim.Native.Nat.{_≤_}
 use lib.ListN.{length, take}

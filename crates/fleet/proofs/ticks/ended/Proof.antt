@@ -1,3 +1,4 @@
+-- Goals are taken up in all 64 records, and the first `count` of the results are the results of the first `count`.
 use mathlib.Core.Path.{ap, _∙_}
 use lib.ListN.{take}
 use Rattle.records.specs.declared.Record.{Record}

@@ -1,3 +1,4 @@
+-- The components are tested in order: three returns name the word of the first that is not finite, and one is past all three tests.
 use borrow.Author.Tests.{not-true, not-false}
 use Rattle.fleet.specs.Tick.{goalFault}
 use borrow.Author.Needs.{needs}

@@ -1,3 +1,4 @@
+-- An open tick has `hold_goal` hold the goal, and outside a tick `with_record` stores the agent's record with the goal in it.
 use mathlib.Core.Path.{_≡_}
 use native.Mathlib.Omega.{arith}
 use lib.ListN.{length, length-map}

@@ -1,3 +1,4 @@
+-- Where no goal was held the record is as it was, and where one was it is what `with_goal` ensures.
 use Rattle.fleet.specs.Tick.{goalTaken}
 use borrow.Author.Needs.{needs}
 use Rattle.fleet.proofs.ticks.goal_taken.Statement.{statement}

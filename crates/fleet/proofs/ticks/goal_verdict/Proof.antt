@@ -1,3 +1,4 @@
+-- An index past the agents is refused first and then what `goal_fault` found, and what is left passes.
 use mathlib.Core.Path.{sym, _∙_}
 use borrow.Author.Tests.{lt-ltb, le-ltb}
 use Rattle.refusals.specs.Verdict.{_⊳_, refusedAt}

@@ -1,3 +1,4 @@
+-- The walk takes up a goal at a time: the results so far, with those of the records that are left, make the definition's list.
 use mathlib.Core.Path.{_≡_, refl, sym, _∙_}
 use Prim.Native.Nat.{_-_, _<_, _≤_}
 use lib.ListN.{length, length-set}

@@ -1,3 +1,4 @@
+-- A slot that holds nothing has no plan and one that holds a vector has one: a case for each.
 use Rattle.fleet.specs.Tick.{hasPlan}
 use borrow.Author.Needs.{needs}
 use Rattle.fleet.proofs.ticks.has_plan.Statement.{statement}

@@ -1,3 +1,4 @@
+-- Only the goals change, to what `with_held` ensures, and the other three fields are the fleet's own.
 use Rattle.fleet.specs.Tick.{holdGoal}
 use borrow.Author.Needs.{needs}
 use Rattle.fleet.proofs.ticks.hold_goal.Statement.{statement}

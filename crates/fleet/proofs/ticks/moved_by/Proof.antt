@@ -1,3 +1,4 @@
+-- No plan leaves the record as it was, and a velocity held goes into it with the position that `arrival` ensures for the same plan.
 use Rattle.fleet.specs.Tick.{movedBy}
 use borrow.Author.Needs.{needs}
 use Rattle.fleet.proofs.ticks.moved_by.Statement.{statement}

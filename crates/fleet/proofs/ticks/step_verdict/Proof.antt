@@ -1,3 +1,4 @@
+-- A step that is not finite, one that passes and one that is not above 0: a return for each way through the definition's two tests.
 use borrow.Author.Tests.{not-true, not-false}
 use Rattle.fleet.specs.Tick.{stepVerdict}
 use borrow.Author.Needs.{needs}

@@ -1,3 +1,4 @@
+-- One store within the 64 slots, which is the definition's `set`.
 use mathlib.Core.Path.{refl}
 use Rattle.fleet.specs.Tick.{withHeld}
 use borrow.Author.Needs.{needs}

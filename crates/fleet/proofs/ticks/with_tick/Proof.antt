@@ -1,3 +1,4 @@
+-- The first `count` records, of which `holding_nothing` makes the fleet, are by definition the agents.
 use Rattle.fleet.specs.Table.{agents}
 use borrow.Author.Needs.{needs}
 use Rattle.fleet.proofs.ticks.with_tick.Statement.{statement}

@@ -11,7 +11,7 @@ use lib.Ieee.Bits.{ofBits-toBits}
 use borrow.Author.Tests.{le-leb, lt-leb}
 use Rattle.vectors.specs.Number.{ofWord, toWord}
 use Rattle.spacing.specs.Millimetres.{signed, millimetres}
-use Rattle.spacing.specs.MillimetresParts.{reach, fromCorner}
+use Rattle.spacing.specs.parts.Millimetres.{reach, fromCorner}
 use Rattle.spacing.specs.Frame.{outOfReach}
 use Rattle.spacing.proofs.WholeNumbers.{natAbs-signed, signed-corner}
 use Rattle.spacing.proofs.Patterns.{word-within, word-size, within-size}

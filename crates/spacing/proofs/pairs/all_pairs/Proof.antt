@@ -5,7 +5,7 @@ use native.Mathlib.Omega.{arith}
 use denote.Ref.{now}
 use lib.ListN.{drop}
 use Rattle.spacing.specs.Frame.{positions}
-use Rattle.spacing.specs.PairsParts.{Near, withPairs, startAt}
+use Rattle.spacing.specs.parts.Pairs.{Near, withPairs, startAt}
 use Rattle.spacing.proofs.Positions.{near, again, end}
 use Rattle.spacing.proofs.pairs.all_pairs.Statement.{statement}
 use Rattle.spacing.proofs.pairs.all_pairs.Tie as tie

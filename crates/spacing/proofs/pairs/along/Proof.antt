@@ -7,8 +7,8 @@ use denote.Ref.{now}
 use lib.Ieee.{nan}
 use lib.ListN.{length, getD, length-set}
 use Rattle.spacing.specs.Millimetres.{millimetres}
-use Rattle.spacing.specs.MillimetresParts.{fromCorner}
-use Rattle.spacing.specs.PairsParts.{Along}
+use Rattle.spacing.specs.parts.Millimetres.{fromCorner}
+use Rattle.spacing.specs.parts.Pairs.{Along}
 use Rattle.spacing.proofs.Filled.{one-more}
 use Rattle.spacing.proofs.WithinReach.{reached}
 use Rattle.spacing.proofs.pairs.along.Statement.{statement}

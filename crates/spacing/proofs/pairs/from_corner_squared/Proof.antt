@@ -5,7 +5,7 @@ use native.Mathlib.Omega.{arith}
 use borrow.Author.Needs.{needs}
 use denote.Ref.{now}
 use lib.ListN.{length, length-set}
-use Rattle.spacing.specs.PairsParts.{Squares, dotAt}
+use Rattle.spacing.specs.parts.Pairs.{Squares, dotAt}
 use Rattle.spacing.proofs.Filled.{one-more}
 use Rattle.spacing.proofs.pairs.from_corner_squared.Statement.{statement}
 use Rattle.spacing.proofs.pairs.from_corner_squared.Tie as tie

@@ -5,7 +5,7 @@ use native.Mathlib.Numerals.{add-one}
 use native.Mathlib.Omega.{arith}
 use borrow.Author.Needs.{needs}
 use denote.Ref.{now}
-use Rattle.spacing.specs.PairsParts.{Placed, squaredAt, listed, withSquare, glanced}
+use Rattle.spacing.specs.parts.Pairs.{Placed, squaredAt, listed, withSquare, glanced}
 use Rattle.spacing.proofs.Squares.{placed-at, squared-at}
 use Rattle.spacing.proofs.Rows.{again, end, below-more}
 use Rattle.spacing.proofs.pairs.glance_along.Statement.{statement}

@@ -3,7 +3,7 @@ use mathlib.Core.Path.{_≡_, refl}
 use Prim.Native.Nat.{_+_, _-_, _*_, _^_, _≤_, _<_}
 use native.Mathlib.Omega.{arith}
 use Rattle.spacing.specs.declared.pairs.Spot.{Spot}
-use Rattle.spacing.specs.PairsParts.{Placed, squaredBetween}
+use Rattle.spacing.specs.parts.Pairs.{Placed, squaredBetween}
 use Rattle.spacing.proofs.Squares.{by-dots}
 use borrow.Author.Needs.{needs}
 use Rattle.spacing.proofs.pairs.squared_between.Statement.{statement}

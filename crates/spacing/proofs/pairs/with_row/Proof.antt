@@ -1,7 +1,7 @@
 -- A glance, and the pair where it found one nearer, are what the pairs one after another leave.
 use denote.Ref.{now}
 use Prim.Native.Nat.{suc, _-_}
-use Rattle.spacing.specs.PairsParts.{squaredAt, listed}
+use Rattle.spacing.specs.parts.Pairs.{squaredAt, listed}
 use Rattle.spacing.proofs.Rows.{row-nearer, row-same}
 use borrow.Author.Needs.{needs}
 use Rattle.spacing.proofs.pairs.with_row.Statement.{statement}

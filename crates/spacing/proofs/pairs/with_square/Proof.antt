@@ -5,7 +5,7 @@ use mathlib.Core.Logic.{⊎-elim}
 use lib.Dec.{ltb}
 use Prim.Native.Nat.{_+_}
 use borrow.Author.Tests.{lt-ltb, le-ltb}
-use Rattle.spacing.specs.PairsParts.{withSquare}
+use Rattle.spacing.specs.parts.Pairs.{withSquare}
 use borrow.Author.Needs.{needs}
 use Rattle.spacing.proofs.pairs.with_square.Statement.{statement}
 use Rattle.spacing.proofs.pairs.with_square.Tie as tie

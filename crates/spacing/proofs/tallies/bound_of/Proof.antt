@@ -1,5 +1,5 @@
 -- What a squared distance has to be below, by cases.
-use Rattle.spacing.specs.TallyParts.{boundOf}
+use Rattle.spacing.specs.parts.Tally.{boundOf}
 use borrow.Author.Needs.{needs}
 use Rattle.spacing.proofs.tallies.bound_of.Statement.{statement}
 use Rattle.spacing.proofs.tallies.bound_of.Tie as tie

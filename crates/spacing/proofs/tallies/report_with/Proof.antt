@@ -14,8 +14,8 @@ use Rattle.spacing.specs.declared.pairs.Running.{Running}
 use Rattle.spacing.specs.Frame.{positions, pairs}
 use Rattle.spacing.specs.Report.{lesser, smallestOf, belowOf}
 use Rattle.spacing.specs.Tally.{withinReach, fullest, reportWith}
-use Rattle.spacing.specs.PairsParts.{withPairs, startAt}
-use Rattle.spacing.specs.TallyParts.{boundOf, smallestAfter}
+use Rattle.spacing.specs.parts.Pairs.{withPairs, startAt}
+use Rattle.spacing.specs.parts.Tally.{boundOf, smallestAfter}
 use Rattle.spacing.proofs.Tracked.{all-within, pairs-below, smallest-tracked}
 use borrow.Author.Needs.{needs}
 use Rattle.spacing.proofs.tallies.report_with.Statement.{statement}

@@ -1,6 +1,6 @@
 -- A smaller square is taken with its pair, and one that is equal is not.
 use borrow.Author.Tests.{lt-ltb, le-ltb}
-use Rattle.spacing.specs.TallyParts.{smallestAfter}
+use Rattle.spacing.specs.parts.Tally.{smallestAfter}
 use borrow.Author.Needs.{needs}
 use Rattle.spacing.proofs.tallies.smallest_after.Statement.{statement}
 use Rattle.spacing.proofs.tallies.smallest_after.Tie as tie

@@ -3,8 +3,8 @@ use mathlib.Core.Path.{_≡_, refl, sym, ap, _∙_}
 use mathlib.Core.Bool.{Bool, true, false, cond}
 use mathlib.Core.Logic.{⊎-elim}
 use lib.Ieee.{Float, lt, le}
-use Rattle.vectors.specs.declared.number.Clamped.{Clamped}
-use Rattle.vectors.specs.declared.number.Clamped.the-variants.{Value}
+use Rattle.vectors.specs.declared.Clamped.{Clamped}
+use Rattle.vectors.specs.declared.Clamped.the-variants.{Value}
 use Rattle.vectors.specs.Number.{clamped}
 use Rattle.vectors.proofs.number.clamp.Statement.{statement}
 use Rattle.vectors.proofs.number.clamp.Tie as tie
