@@ -11,7 +11,7 @@ use Rattle.vectors.proofs.Truth.{no-truth, both}
 use Rattle.refusals.specs.declared.Refusal.the-variants.{NotFinite}
 use Rattle.refusals.specs.declared.Verdict.{Verdict}
 use Rattle.refusals.specs.declared.Verdict.the-variants.{Passed, Refused}
-use Rattle.refusals.specs.Verdict.{_⊳_, refusedAt}
+use Rattle.refusals.specs.Verdict.{refusedAt}
 use Rattle.refusals.proofs.Verdicts.{both-passed}
 use Rattle.records.specs.declared.Record.{Record}
 use Rattle.records.specs.Record.{blank, withGoal}

@@ -27,7 +27,6 @@ use Rattle.refusals.specs.Verdict.{_⊳_, refusedAt}
 use Rattle.refusals.proofs.Conditions.{no-place, indexOf, orElse, holding-append}
 use Rattle.refusals.proofs.Verdicts.{said, Says, then, held-says, tested-says, found-says}
 use Rattle.avoidance.specs.declared.Reply.{Reply}
-use Rattle.avoidance.specs.Reply.{isAnswered}
 use Rattle.avoidance.specs.Reply as reply
 use Rattle.avoidance.specs.Velocity.{velocityCall}
 use Rattle.avoidance.specs.Conditions.{velocityConditions}

@@ -11,7 +11,6 @@ use Rattle.refusals.specs.declared.Verdict.the-variants.{Passed, Refused}
 use Rattle.refusals.proofs.Verdicts.{not-answered, test-passed}
 use Rattle.records.specs.Record.{mostAgents}
 use Rattle.records.specs.Checks.{indexAmong}
-use Rattle.fleet.specs.declared.Answer.the-variants as answer
 use Rattle.fleet.specs.declared.Answer.the-variants.{Done}
 use Rattle.fleet.specs.declared.Fleet.{Fleet}
 use Rattle.fleet.specs.Answer.{number}

@@ -10,7 +10,6 @@ use Rattle.vectors.specs.Vec3.{_-ᵥ_, distanceSquared}
 use Rattle.refusals.specs.declared.Refusal.the-variants.{NoTick}
 use Rattle.refusals.specs.declared.Verdict.{Verdict}
 use Rattle.refusals.specs.declared.Verdict.the-variants.{Passed, Refused}
-use Rattle.refusals.specs.Verdict.{settledBy}
 use Rattle.avoidance.specs.declared.Request.{Request}
 use Rattle.avoidance.specs.declared.Reply.{Reply}
 use Rattle.avoidance.specs.Lent.{agentNumbers}

@@ -1,7 +1,5 @@
 -- A stored agent: its 19 words, read as numbers, and the words that a tick changes.
 use Prim.Native.Nat.{ℕ, _+_}
-use mathlib.Core.Bool.{cond}
-use lib.Dec.{ltb}
 use lib.ListN.{getD, set, replicate}
 use lib.Ieee.{Float}
 use Rattle.vectors.specs.declared.Vec3.{Vec3}

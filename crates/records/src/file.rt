@@ -1,8 +1,7 @@
 // The fleet file: records of 76 bytes, with each word little-endian. The definitions are in `specs/File.antt`.
 ghost use mathlib.Core.Path.{_≡_};
-ghost use mathlib.Core.List.{_++_};
-ghost use Prim.Native.Nat.{_+_, _-_, _*_, _/_, _≤_, _<_};
-ghost use lib.ListN.{length, getD, take, drop};
+ghost use Prim.Native.Nat.{_+_, _/_, _≤_, _<_};
+ghost use lib.ListN.{length, getD, drop};
 ghost use Rattle.records.specs.Record.{mostAgents};
 ghost use Rattle.records.specs.File.{recordBytes, wordIn, recordIn, wholeFile, decodedRecords, undecoded, decoded};
 use super::Decoded;

@@ -13,7 +13,7 @@ use lib.Seq.{drop-cons, getD-set-same, getD-set-other}
 use borrow.Author.Tests.{eqb-true, eqb-false}
 use Rattle.refusals.specs.declared.Found.{Found}
 use Rattle.refusals.specs.declared.Found.the-variants.{At, Nothing}
-use Rattle.refusals.specs.Conditions.{firstHolding, isFound, marked, firstBad, Lowest}
+use Rattle.refusals.specs.Conditions.{firstHolding, marked, firstBad, Lowest}
 
 -- ---- what was found
 

@@ -11,9 +11,9 @@ use Rattle.refusals.specs.declared.Refusal.the-variants as refusal
 use Rattle.refusals.specs.declared.Verdict.{Verdict}
 use Rattle.refusals.specs.declared.Verdict.the-variants.{Passed, Refused}
 use Rattle.refusals.specs.Refusal.{number}
-use Rattle.refusals.specs.Conditions.{firstHolding, isFound, some}
-use Rattle.refusals.specs.Verdict.{_⊳_, refusedIf, refusedAt, settledBy}
-use Rattle.refusals.proofs.Conditions.{no-place, orElse, holding-append}
+use Rattle.refusals.specs.Conditions.{firstHolding, isFound}
+use Rattle.refusals.specs.Verdict.{_⊳_, refusedIf, refusedAt}
+use Rattle.refusals.proofs.Conditions.{orElse, holding-append}
 
 -- ---- passed or refused
 

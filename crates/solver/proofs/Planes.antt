@@ -1,13 +1,12 @@
 -- The few laws of planes lent as numbers: what a loop over them has left, what it has passed, and a part that is lent on.
-use mathlib.Core.Path.{_≡_, refl, sym, ap, _∙_, subst}
+use mathlib.Core.Path.{_≡_, refl, sym, ap, _∙_}
 use mathlib.Core.List.{List, [], _∷_, _++_}
 use Prim.Native.Nat.{ℕ, zero, suc, _+_, _-_, _*_, _/_, _≤_, _<_, zero-le}
 use native.Mathlib.Nat.{le-refl, le-of-lt, le-of-suc-le-suc, not-suc-le-zero, zero-add, suc-add, mul-div-cancel-left, zero-lt-suc}
-use native.Mathlib.Numerals.{add-one}
 use native.Mathlib.Omega.{arith}
 use mathlib.Core.Bool.{Bool, true, false, not}
 use lib.Dec.{T, leb, leb→le, nleb→lt}
-use lib.ListN.{length, getD, take, drop}
+use lib.ListN.{length, take, drop}
 use lib.Seq.{getD-take, drop-drop, take-nil, length-take-le}
 use lib.Ieee.{Float, nan}
 use Rattle.solver.specs.declared.Plane.{Plane}

@@ -3,7 +3,7 @@
 // The Rust collects the turned planes in a `Vec`. Here they are written to the second half of the
 // lent scratch, whose first half holds the planes, and are solved there.
 ghost use mathlib.Core.Path.{_≡_};
-ghost use Prim.Native.Nat.{_+_, _-_, _*_, _/_, _≤_, _<_};
+ghost use Prim.Native.Nat.{_*_, _/_, _≤_};
 ghost use lib.ListN.{length, drop};
 ghost use Rattle.solver.specs.Lent.{perPlane, scratchPerPlane, planeAt, planesOf};
 ghost use Rattle.solver.specs.FourD.{turnedPlane, turnBy, relaxBy, fourD, halfCleared};

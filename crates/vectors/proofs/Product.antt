@@ -1,10 +1,10 @@
 -- A product does not depend on the order of its factors: one `mul` of a vector and a scalar serves both of Rust's `v * s` and `s * v`.
-use mathlib.Core.Path.{_≡_, refl, ap, _∙_}
+use mathlib.Core.Path.{_≡_, refl, ap}
 use mathlib.Core.Bool.{Bool, true, false, cond}
-use Prim.Native.Nat.{ℕ, _*_}
+use Prim.Native.Nat.{_*_}
 use native.Mathlib.Nat.{mul-comm}
 use lib.Dec.{eqb}
-use lib.Ieee.{Float, nan, inf, fin, binary32, unlike, up, down, round, mul}
+use lib.Ieee.{Float, nan, inf, fin, unlike, up, down, mul}
 use Rattle.vectors.specs.Number.{_⊗_}
 
 unlike-swap : (s t : Bool) → unlike s t ≡ unlike t s

@@ -1,7 +1,6 @@
 -- The square root, document 01's module 1: first the statement, nearest over whole numbers, and then a definition that computes it.
 use Prim.Native.Nat.{ℕ, zero, suc, _+_, _-_, _*_, _/_, _^_, _≤_, _<_}
-use mathlib.Core.Bool.{Bool, true, false, cond}
-use lib.IntN.{pos}
+use mathlib.Core.Bool.{true, false, cond}
 use lib.Dec.{leb, ltb}
 use lib.Ieee.{Float, nan, inf, fin, up, down, size, odd}
 use lib.Ieee.Exact.{HasValue}

@@ -1,16 +1,14 @@
 -- The planes of the neighbours, from one of them on, and the first that is not finite.
-use mathlib.Core.Path.{_≡_, refl, sym, ap, _∙_}
+use mathlib.Core.Path.{_≡_, refl, ap, _∙_}
 use mathlib.Core.Bool.{true, false, not}
-use mathlib.Core.List.{List, [], _∷_, _++_, append-assoc, append-nil}
+use mathlib.Core.List.{List, [], _∷_, _++_}
 use Prim.Native.Nat.{ℕ, zero, suc, _+_, _-_, _*_, _≤_, _<_}
-use native.Mathlib.Numerals.{add-one}
 use native.Mathlib.Omega.{arith}
 use lib.Ieee.{Float}
-use lib.ListN.{length, take, drop, length-append, length-drop}
-use lib.Seq.{drop-drop, take-at, drop-at}
+use lib.ListN.{length, drop}
+use lib.Seq.{drop-drop}
 use Rattle.solver.specs.declared.Plane.{Plane}
 use Rattle.avoidance.specs.declared.Request.{Request}
-use Rattle.refusals.specs.declared.Found.{Found}
 use Rattle.refusals.specs.declared.Found.the-variants.{At, Nothing}
 use Rattle.refusals.specs.Conditions.{firstBad}
 use Rattle.refusals.proofs.Conditions.{first-here, first-later, first-none}

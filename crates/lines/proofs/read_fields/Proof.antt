@@ -2,17 +2,16 @@
 -- A field ends within the text, so that the next starts at most one past it. The measure is what is left of the text.
 -- Assumes nothing.
 use Prim.Native.Nat.{ℕ, suc, _+_, _-_, _≤_, _<_}
-use mathlib.Core.Path.{_≡_, refl, sym, _∙_, ap}
+use mathlib.Core.Path.{_≡_, refl, sym, _∙_}
 use mathlib.Core.Bool.{Bool, true, false, cond}
 use mathlib.Core.List.{List, [], _∷_}
-use native.Mathlib.Numerals.{add-one}
 use native.Mathlib.Omega.{arith}
 use lib.Dec.{eqb}
 use lib.ListN.{length, take, drop, length-drop}
 use lib.Seq.{take-all, drop-drop}
 use borrow.Author.Needs.{needs}
 use Rattle.lines.specs.declared.Fields.{Fields}
-use Rattle.lines.specs.Lines.{lengthUntil, begunBy, parts, withField, withFields, noFields, fieldsOf}
+use Rattle.lines.specs.Lines.{lengthUntil, begunBy, parts, withField, withFields, fieldsOf}
 use Rattle.lines.proofs.read_fields.Statement.{statement}
 use Rattle.lines.proofs.read_fields.Tie as tie
 

@@ -1,8 +1,7 @@
 -- `lines::with_word` meets its contract: each return is what `withWord` picks by the arm and the test that led there.
 -- Assumes nothing.
-use Prim.Native.Nat.{ℕ, _+_, _≤_, _<_}
+use Prim.Native.Nat.{ℕ, _≤_}
 use mathlib.Core.Path.{_≡_, _∙_, sym}
-use lib.ListN.{set}
 use borrow.Author.Tests.{le-leb, lt-leb}
 use Rattle.lines.specs.declared.Fields.{Fields}
 use Rattle.lines.specs.declared.Number.{Number}

@@ -1,7 +1,7 @@
 -- What the private functions of the 4D program promise each other of the scratch, of which the planes take the first perPlane * count numbers, and those turned the next.
 use Prim.Native.Nat.{ℕ, _+_, _*_, _≤_, _<_}
 use mathlib.Core.Path.{_≡_}
-use mathlib.Core.List.{List, [], _∷_, _++_}
+use mathlib.Core.List.{List, [], _++_}
 use lib.ListN.{length, take, drop}
 use lib.Ieee.{Float}
 use Rattle.solver.specs.declared.Plane.{Plane}

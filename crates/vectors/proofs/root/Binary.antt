@@ -1,9 +1,8 @@
 -- From the bit patterns of binary32 to document 01's statement: an argument q * 2 ^ p * 4 ^ -149 with q of 24 digits is a * 4 ^ k with a of 47 or 48.
 use mathlib.Core.Path.{_≡_, refl, sym, ap, _∙_, subst}
-use mathlib.Core.Bool.{Bool, true, false, not, cond, true≢false, false≢true}
+use mathlib.Core.Bool.{Bool, true, false, cond, true≢false, false≢true}
 use Prim.Native.Nat.{ℕ, zero, suc, _+_, _-_, _*_, _/_, _%_, _^_, _≤_, _<_}
-use native.Mathlib.Nat.{le-antisymm, le-trans, le-of-eq, lt-of-lt-of-le, lt-of-not-le, not-le-of-lt, lt-irrefl, mul-le-mul-right, mul-assoc, mul-comm, mul-right-comm, mul-one, zero-mul, pow-suc, one-le-pow, zero-lt-suc, mul-pos, mul-div-cancel, mod-eq-of-lt}
-use native.Mathlib.Numerals.{add-one}
+use native.Mathlib.Nat.{le-trans, le-of-eq, lt-of-lt-of-le, lt-of-not-le, not-le-of-lt, lt-irrefl, mul-le-mul-right, mul-assoc, mul-right-comm, mul-one, zero-mul, pow-suc, one-le-pow, zero-lt-suc, mul-pos, mul-div-cancel, mod-eq-of-lt}
 use native.Mathlib.Omega.{arith}
 use lib.IntN.{ℤ}
 use lib.Dec.{T, leb, eqb}

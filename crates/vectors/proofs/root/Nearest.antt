@@ -3,12 +3,11 @@
 --     root-only        whatever meets the statement is the root: the statement determines the result
 --     root-of-zero, root-of-infinity, root-of-negative, root-of-nan     the other arguments
 use mathlib.Core.Path.{_≡_, refl, sym, ap, _∙_, subst}
-use mathlib.Core.Bool.{Bool, true, false, not, cond, true≢false, false≢true}
-use mathlib.Core.Logic.{_⊎_, inl, inr}
+use mathlib.Core.Bool.{Bool, true, false, not, true≢false, false≢true}
 use Prim.Native.Nat.{ℕ, zero, suc, _+_, _-_, _*_, _/_, _%_, _^_, _≤_, _<_, zero-le}
 use native.Mathlib.Nat.{le-of-lt, lt-of-lt-of-le, mul-pos, mul-div-cancel, zero-mul, one-le-pow, zero-lt-suc}
 use native.Mathlib.Omega.{arith}
-use lib.IntN.{ℤ, pos}
+use lib.IntN.{pos}
 use lib.Dec.{T, ltb, ltb→lt, nltb→le}
 use lib.Pow.{pow-pos, pow-mono, shl-lt}
 use lib.Ieee.{Float, nan, inf, fin, binary32, up, down, size, odd, lt, div, fits, ofBits, toBits}
@@ -18,7 +17,7 @@ use lib.Ieee.Fits.{down-pos, odd-fits}
 use borrow.Author.Tests.{le-ltb}
 use Rattle.vectors.specs.Number.{ofWord, toWord, finite, _<ᶠ_, _⊘_, one, zero as zero32}
 use Rattle.vectors.specs.Root.{root, nearestRoot, NearestRoot}
-use Rattle.vectors.specs.parts.Root.{Parts, Near}
+use Rattle.vectors.specs.parts.Root.{Parts}
 use Rattle.vectors.proofs.root.Whole.{nearest-near, nearest-only, near-says, near-of}
 use Rattle.vectors.proofs.root.Binary.{wholePart, halfPower, split-power, whole-bounds, root-bounds, root-parts, root-scaled, positive-word, above-zero, normal-parts, subnormal-parts, shiftOf}
 

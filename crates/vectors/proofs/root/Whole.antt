@@ -1,8 +1,8 @@
 -- Square roots among the whole numbers: the definition's digit by digit root is the whole part, its nearest one is nearest, and each is the only one.
-use mathlib.Core.Path.{_≡_, refl, sym, ap, _∙_, subst}
+use mathlib.Core.Path.{_≡_, sym, ap, _∙_, subst}
 use mathlib.Core.Bool.{Bool, true, false, not, cond}
 use Prim.Native.Nat.{ℕ, zero, suc, _+_, _-_, _*_, _/_, _^_, _≤_, _<_}
-use native.Mathlib.Nat.{le-antisymm, le-of-lt, le-of-suc-le-suc, lt-of-lt-of-le, lt-of-le-of-lt, lt-of-not-le, not-le-of-lt, lt-irrefl, mul-le-mul, mul-le-mul-left, add-mul, mul-add, one-mul, mul-one, mul-assoc, mul-comm, mul-left-comm, pow-suc, zero-lt-suc, div-lt-iff-lt-mul, add-assoc, add-comm, add-left-comm}
+use native.Mathlib.Nat.{le-antisymm, le-of-lt, le-of-suc-le-suc, lt-of-le-of-lt, lt-of-not-le, mul-le-mul, mul-le-mul-left, add-mul, mul-add, mul-assoc, mul-comm, mul-left-comm, pow-suc, zero-lt-suc, div-lt-iff-lt-mul}
 use native.Mathlib.Numerals.{add-one}
 use native.Mathlib.Omega.{arith}
 use lib.Dec.{T, leb, ltb, leb→le, nleb→lt, ltb→lt, nltb→le}

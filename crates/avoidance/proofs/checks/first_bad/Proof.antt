@@ -1,19 +1,12 @@
 -- The walk over the numbers stops at the first bad one: what is left to look at has the answer of the whole.
-use mathlib.Core.Path.{_≡_, refl, sym, ap, _∙_}
-use mathlib.Core.Bool.{true, false, cond}
-use mathlib.Core.List.{List, _∷_}
-use Prim.Native.Nat.{ℕ, suc, _+_, _-_, _≤_, _<_}
+use mathlib.Core.Path.{_≡_, sym, _∙_}
+use Prim.Native.Nat.{_+_, _-_, _≤_}
 use native.Mathlib.Nat.{add-zero}
-use native.Mathlib.Numerals.{add-one}
 use native.Mathlib.Omega.{arith}
 use borrow.Author.Needs.{needs}
 use denote.Ref.{now}
-use lib.Ieee.{Float, nan}
-use lib.ListN.{length, getD, drop, drop-of-length-le}
-use lib.Seq.{drop-cons}
-use Rattle.avoidance.specs.declared.Asked.{Asked}
-use Rattle.refusals.specs.declared.Found.{Found}
-use Rattle.refusals.specs.declared.Found.the-variants.{At, Nothing}
+use lib.Ieee.{nan}
+use lib.ListN.{length, drop}
 use Rattle.refusals.specs.Conditions.{firstBad}
 use Rattle.refusals.proofs.Conditions.{bad-here, bad-later, bad-past}
 use Rattle.avoidance.specs.Checks.{badNumber}

@@ -1,33 +1,23 @@
 -- `planned` writes the planes, solves them in place and clears the scratch where there is no answer.
-use mathlib.Core.Path.{_≡_, refl, sym, ap, _∙_, subst}
-use mathlib.Core.Bool.{Bool, true, false, cond}
-use mathlib.Core.List.{List, [], _∷_, _++_, append-nil}
-use Prim.Native.Nat.{ℕ, _+_, _*_, _/_, _≤_}
+use mathlib.Core.Path.{_≡_, sym, ap, _∙_}
+use mathlib.Core.List.{List, _++_, append-nil}
+use Prim.Native.Nat.{ℕ, _+_, _*_, _/_}
 use native.Mathlib.Nat.{le-of-eq}
 use native.Mathlib.Omega.{arith}
 use borrow.Author.Needs.{needs}
 use denote.Ref.{now}
 use lib.Ieee.{Float}
-use lib.ListN.{length, take, drop, replicate, length-append, drop-of-length-le}
-use lib.Seq.{take-at}
-use Rattle.vectors.specs.declared.Vec3.{Vec3}
+use lib.ListN.{length, drop, replicate, drop-of-length-le}
 use Rattle.vectors.specs.Number.{zero}
 use Rattle.solver.specs.declared.Plane.{Plane}
 use Rattle.avoidance.specs.declared.Request.{Request}
-use Rattle.refusals.specs.declared.Found.{Found}
-use Rattle.refusals.specs.declared.Found.the-variants.{At, Nothing}
-use Rattle.solver.specs.declared.Outcome.{Outcome}
-use Rattle.solver.specs.declared.Outcome.the-variants.{Feasible, Infeasible, BadClamp}
-use Rattle.solver.specs.declared.Solution.{Solution}
+use Rattle.refusals.specs.declared.Found.the-variants.{Nothing}
 use Rattle.avoidance.specs.declared.Reply.{Reply}
-use Rattle.avoidance.specs.declared.Reply.the-variants.{Answered, Refused}
-use Rattle.refusals.specs.declared.Refusal.the-variants.{NoVelocity}
 use Rattle.refusals.specs.Conditions.{firstBad}
 use Rattle.solver.specs.Lent.{planesOf, numbersOfPlanes}
 use Rattle.solver.specs.FourD.{halfCleared}
 use Rattle.solver.specs.Solve.{solve}
-use Rattle.vectors.specs.Vec3.{finiteVec, plusZeros}
-use Rattle.avoidance.specs.Velocity.{planesFrom, planesOfCall, badPlane, answered, replyOf, planesVerdict, plannedReply, plannedScratch}
+use Rattle.avoidance.specs.Velocity.{planesOfCall, badPlane, replyOf, planesVerdict, plannedReply, plannedScratch}
 use Rattle.solver.proofs.four_d.Scratch.{cleared-length}
 use Rattle.solver.proofs.LentPlanes.{flat-read, half-cleared}
 use Rattle.avoidance.proofs.velocity.Planes.{from-length}

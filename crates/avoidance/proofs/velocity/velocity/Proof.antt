@@ -1,5 +1,5 @@
 -- `velocity` refuses as the checks do, and otherwise hands on `planned`, whose part of the scratch is the first of it.
-use mathlib.Core.Path.{_≡_, refl, sym, ap, _∙_}
+use mathlib.Core.Path.{_≡_, sym, ap, _∙_}
 use mathlib.Core.List.{List, [], _++_, append-nil}
 use Prim.Native.Nat.{ℕ, _*_, _/_, _≤_}
 use native.Mathlib.Nat.{le-of-eq}
@@ -9,16 +9,13 @@ use lib.Ieee.{Float}
 use lib.ListN.{length, take, drop, replicate, drop-of-length-le}
 use lib.Seq.{length-take-le}
 use Rattle.vectors.specs.Number.{zero}
-use Rattle.refusals.specs.declared.Verdict.{Verdict}
 use Rattle.refusals.specs.declared.Verdict.the-variants.{Passed}
-use Rattle.refusals.specs.Verdict.{settledBy}
 use Rattle.solver.specs.declared.Plane.{Plane}
 use Rattle.solver.specs.Lent.{numbersOfPlanes}
-use Rattle.avoidance.specs.declared.Request.{Request}
 use Rattle.avoidance.specs.declared.Reply.{Reply}
 use Rattle.avoidance.specs.declared.Reply.the-variants.{Answered, Refused}
 use Rattle.avoidance.specs.Checks.{checks}
-use Rattle.avoidance.specs.Velocity.{planesOfCall, plannedReply, velocityCall, plannedScratch, scratchAfter}
+use Rattle.avoidance.specs.Velocity.{planesOfCall, velocityCall, plannedScratch, scratchAfter}
 use Rattle.avoidance.proofs.ReplyLaws.{passed-fits}
 use Rattle.avoidance.proofs.velocity.velocity.Statement.{statement}
 use Rattle.avoidance.proofs.velocity.velocity.Tie as tie

@@ -1,6 +1,5 @@
 -- The count in range is how many agents there are.
 use mathlib.Core.Path.{_≡_}
-use Prim.Native.Nat.{ℕ}
 use native.Mathlib.Omega.{arith}
 use lib.ListN.{length, length-take, length-map}
 use borrow.Author.Needs.{needs}

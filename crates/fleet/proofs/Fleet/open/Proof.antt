@@ -1,5 +1,5 @@
 -- `open_verdict` decides: refused, the fleet is handed back; passed, the new one is what `with_tick` ensures.
-use mathlib.Core.Path.{sym, ap, _∙_}
+use mathlib.Core.Path.{sym, _∙_}
 use Rattle.fleet.specs.Tick.{openCall}
 use Rattle.fleet.proofs.Verdicts.{settled-refused, settled-passed}
 use borrow.Author.Needs.{needs}

@@ -1,5 +1,4 @@
 -- `read` answers by the count and hands out the words of the record that stands.
-use mathlib.Core.Path.{_≡_}
 use borrow.Author.Needs.{needs}
 use Rattle.fleet.specs.Table.{hasAgent, readCall}
 use Rattle.fleet.proofs.Fleet.read.Statement.{statement}

@@ -1,8 +1,8 @@
 -- The record at an index of the array is the agent's, where there are more agents than that, and blank where there are not.
-use mathlib.Core.Path.{_≡_, sym, _∙_}
+use mathlib.Core.Path.{sym, _∙_}
 use Prim.Native.Nat.{_<_, _≤_}
 use native.Mathlib.Omega.{arith}
-use lib.ListN.{length, length-take, length-map, List·getD-eq-default}
+use lib.ListN.{length, length-take, List·getD-eq-default}
 use lib.Seq.{getD-take}
 use borrow.Author.Needs.{needs}
 use Rattle.records.specs.Record.{blank}

@@ -1,7 +1,6 @@
 -- An open tick, a full table and then the record's own checks, in the order in which the definition chains them.
 use borrow.Author.Tests.{lt-ltb, le-ltb}
 use borrow.Author.Needs.{needs}
-use Rattle.refusals.specs.Verdict.{_⊳_}
 use Rattle.fleet.specs.Table.{shut, room, addVerdict}
 use Rattle.fleet.proofs.table.add_verdict.Statement.{statement}
 use Rattle.fleet.proofs.table.add_verdict.Tie as tie

@@ -1,7 +1,6 @@
 -- An open tick, then an index past the agents, then what the record's own verdict says: one return for each.
 use borrow.Author.Tests.{lt-ltb, le-ltb}
 use borrow.Author.Needs.{needs}
-use Rattle.refusals.specs.Verdict.{_⊳_}
 use Rattle.fleet.specs.Table.{shut, putVerdict}
 use Rattle.fleet.proofs.table.put_verdict.Statement.{statement}
 use Rattle.fleet.proofs.table.put_verdict.Tie as tie

@@ -1,7 +1,6 @@
 -- Two checks, the tick's and then the index's: a return for each refusal and one past both.
 use borrow.Author.Tests.{lt-ltb, le-ltb}
 use borrow.Author.Needs.{needs}
-use Rattle.refusals.specs.Verdict.{_⊳_}
 use Rattle.fleet.specs.Table.{shut, removeVerdict}
 use Rattle.fleet.proofs.table.remove_verdict.Statement.{statement}
 use Rattle.fleet.proofs.table.remove_verdict.Tie as tie

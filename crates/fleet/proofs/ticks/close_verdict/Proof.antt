@@ -3,7 +3,6 @@ use mathlib.Core.Path.{_≡_, sym, _∙_}
 use Prim.Native.Nat.{_≤_}
 use lib.ListN.{length, take}
 use lib.Seq.{length-take-le}
-use Rattle.refusals.specs.Verdict.{_⊳_, refusedAt}
 use Rattle.fleet.specs.Tick.{closeVerdict}
 use borrow.Author.Needs.{needs}
 use Rattle.fleet.proofs.ticks.close_verdict.Statement.{statement}

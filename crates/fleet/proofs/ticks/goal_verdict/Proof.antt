@@ -1,7 +1,6 @@
 -- An index past the agents is refused first and then what `goal_fault` found, and what is left passes.
 use mathlib.Core.Path.{sym, _∙_}
 use borrow.Author.Tests.{lt-ltb, le-ltb}
-use Rattle.refusals.specs.Verdict.{_⊳_, refusedAt}
 use Rattle.fleet.specs.Tick.{goalVerdict}
 use borrow.Author.Needs.{needs}
 use Rattle.fleet.proofs.ticks.goal_verdict.Statement.{statement}

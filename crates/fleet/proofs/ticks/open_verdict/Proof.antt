@@ -1,5 +1,4 @@
 -- An open tick is refused, and otherwise the time step's own checks decide.
-use Rattle.refusals.specs.Verdict.{_⊳_}
 use Rattle.fleet.specs.Table.{shut}
 use Rattle.fleet.specs.Tick.{openVerdict}
 use borrow.Author.Needs.{needs}

@@ -1,15 +1,11 @@
 -- `four_d` relaxes by each plane from the failed one on: its loop keeps the planes as they were and what those left make of the state, and clearing the second half leaves `halfCleared`.
-use mathlib.Core.Path.{_≡_, refl, sym, ap, _∙_}
-use mathlib.Core.List.{List, _++_}
-use Prim.Native.Nat.{ℕ, _+_, _-_, _*_, _/_, _≤_, _<_}
+use mathlib.Core.Path.{_≡_, refl, ap, _∙_}
+use Prim.Native.Nat.{_-_, _*_, _/_}
 use native.Mathlib.Omega.{arith}
 use borrow.Rule.Slice.PartMut.{putMid}
 use denote.Ref.{now}
-use lib.Ieee.{Float}
-use lib.ListN.{length, take, drop, replicate}
+use lib.ListN.{length, take, drop}
 use borrow.Author.Needs.{needs}
-use Rattle.vectors.specs.Number.{zero}
-use Rattle.solver.specs.declared.Plane.{Plane}
 use Rattle.solver.specs.declared.four_d.Relaxed.{Relaxed}
 use Rattle.solver.specs.Plane.{inTurn}
 use Rattle.solver.specs.Lent.{planeAt, planesOf}

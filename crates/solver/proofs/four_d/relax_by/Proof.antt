@@ -4,13 +4,10 @@ use mathlib.Core.List.{List}
 use Prim.Native.Nat.{_*_}
 use native.Mathlib.Omega.{arith}
 use denote.Ref.{now}
-use lib.Ieee.{Float, neg}
 use lib.ListN.{drop}
 use borrow.Author.Needs.{needs}
 use Rattle.solver.specs.declared.Plane.{Plane}
 use Rattle.solver.specs.declared.Optimum.the-variants.{Direction}
-use Rattle.solver.specs.declared.Outcome.{Outcome}
-use Rattle.solver.specs.declared.four_d.Relaxed.{Relaxed}
 use Rattle.solver.specs.Lent.{planeAt, planesOf}
 use Rattle.solver.specs.ThreeD.{threeD}
 use Rattle.solver.specs.FourD.{turnedAll, relaxedTo, relaxBy}

@@ -6,7 +6,7 @@ use native.Mathlib.Omega.{arith}
 use denote.Ref.{now}
 use lib.ListN.{drop}
 use Rattle.solver.specs.declared.Plane.{Plane}
-use Rattle.solver.specs.Lent.{planeAt, planesOf}
+use Rattle.solver.specs.Lent.{planesOf}
 use Rattle.solver.specs.FourD.{turnedAll}
 use Rattle.solver.specs.parts.FourD.{Keeps}
 use Rattle.solver.proofs.Planes.{rest, rest-all, rest-none}

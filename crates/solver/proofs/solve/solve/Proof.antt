@@ -1,15 +1,11 @@
 -- `solve` lends `three_d` the first half, which holds exactly the planes, and passes on what `value_of` ensures of the value and the scratch.
-use mathlib.Core.Path.{_≡_, refl, sym, ap, _∙_}
-use mathlib.Core.List.{List}
-use Prim.Native.Nat.{ℕ, _*_, _/_}
+use mathlib.Core.Path.{sym}
+use Prim.Native.Nat.{_*_, _/_}
 use native.Mathlib.Omega.{arith}
 use borrow.Author.Needs.{needs}
 use denote.Ref.{now}
 use lib.ListN.{length}
 use lib.Seq.{length-take-le}
-use Rattle.solver.specs.declared.Plane.{Plane}
-use Rattle.solver.specs.declared.Optimum.the-variants.{Point}
-use Rattle.solver.specs.ThreeD.{threeD}
 use Rattle.solver.specs.Solve.{solve}
 use Rattle.solver.proofs.Planes.{planes-lent}
 use Rattle.solver.proofs.solve.solve.Statement.{statement}

@@ -1,5 +1,5 @@
 -- `three_d` meets the planes in turn: its loop keeps what those left make of the best value, and the outcome that ends it early is one that no later plane changes.
-use mathlib.Core.Path.{_≡_, ap, _∙_}
+use mathlib.Core.Path.{_≡_, _∙_}
 use Prim.Native.Nat.{_+_, _-_, _/_, _≤_}
 use native.Mathlib.Omega.{arith}
 use borrow.Author.Needs.{needs}

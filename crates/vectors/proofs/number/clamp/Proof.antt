@@ -1,9 +1,8 @@
 -- With the bounds in order the value is what the second test makes of the number that the first one raised; otherwise the definition has `BadBounds` as the code does.
-use mathlib.Core.Path.{_≡_, refl, sym, ap, _∙_}
+use mathlib.Core.Path.{_≡_}
 use mathlib.Core.Bool.{Bool, true, false, cond}
 use mathlib.Core.Logic.{⊎-elim}
 use lib.Ieee.{Float, lt, le}
-use Rattle.vectors.specs.declared.Clamped.{Clamped}
 use Rattle.vectors.specs.declared.Clamped.the-variants.{Value}
 use Rattle.vectors.specs.Number.{clamped}
 use Rattle.vectors.proofs.number.clamp.Statement.{statement}

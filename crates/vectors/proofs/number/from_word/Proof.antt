@@ -1,9 +1,8 @@
 -- A pattern that is above infinity's once the sign is dropped is read as `nan`, which is also 0 / 0; any other is no NaN's, as the machine's `from_bits` asks.
 use mathlib.Core.Path.{_≡_, refl, sym, _∙_, subst}
-use mathlib.Core.Bool.{Bool, true, false, not, false≢true}
-use Prim.Native.Nat.{ℕ, _%_, _<_, _≤_}
+use mathlib.Core.Bool.{Bool, true, not, false≢true}
 use lib.Dec.{T}
-use lib.Ieee.{Float, nan, inf, fin, isNan, nanBits, div, ofBits, binary32}
+use lib.Ieee.{Float, nan, inf, fin, isNan, div, ofBits, binary32}
 use lib.Ieee.Bits.{nanBits-is, nanBits-above}
 use borrow.Author.Tests.{lt-ltb, le-ltb}
 use borrow.Author.Needs.{needs}

@@ -1,7 +1,7 @@
 -- Each infinity is a quotient of literals, which antt computes; then both tests are known for each kind of number.
 use mathlib.Core.Path.{_≡_, refl, sym}
-use mathlib.Core.Bool.{Bool, true, false}
-use lib.Ieee.{Float, nan, inf, fin, lt, neg, div, ofBits, binary32}
+use mathlib.Core.Bool.{true, false}
+use lib.Ieee.{Float, nan, inf, fin, lt, neg, div, ofBits}
 use Rattle.vectors.specs.Number.{finite, zero, one, _⊘_}
 use Rattle.vectors.proofs.number.is_finite.Statement.{statement}
 use Rattle.vectors.proofs.number.is_finite.Tie as tie

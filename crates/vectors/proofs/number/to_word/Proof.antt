@@ -1,5 +1,5 @@
 -- What equals itself is no NaN, so the machine's `to_bits` may be asked for its pattern; what does not is `nan`, whose pattern `toWord` computes.
-use mathlib.Core.Path.{_≡_, refl, sym, ap, _∙_}
+use mathlib.Core.Path.{sym, ap}
 use lib.Ieee.{toBits}
 use borrow.Author.Needs.{needs}
 use Rattle.vectors.specs.Number.{toWord}

@@ -1,6 +1,4 @@
 -- With r below 2 ^ 27 neither its square nor the sums wrap, and the two comparisons are the two tests of the contract.
-use mathlib.Core.Path.{refl, ap, sym}
-use mathlib.Core.Bool.{Bool, _&&_}
 use Prim.Native.Nat.{_*_, _<_, _^_}
 use native.Mathlib.Omega.{arith}
 use borrow.Author.Tests.{lt-ltb, le-ltb}

@@ -2,7 +2,7 @@
 -- Assumes nothing.
 use Prim.Native.Nat.{_-_, _≤_}
 use mathlib.Core.Path.{_≡_}
-use lib.ListN.{length, length-set}
+use lib.ListN.{length}
 use borrow.Author.Needs.{needs}
 use Rattle.velocity_vectors.proofs.cases.put.Statement.{statement}
 use Rattle.velocity_vectors.proofs.cases.put.Tie as tie

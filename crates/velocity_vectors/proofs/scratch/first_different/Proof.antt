@@ -1,7 +1,7 @@
 -- `velocity_vectors::scratch::first_different` meets its contract: what was passed is as wanted. The measure is what is left of scratch.
 -- Assumes nothing.
 use Prim.Native.Nat.{_-_, _≤_}
-use mathlib.Core.Path.{_≡_, _∙_, sym}
+use mathlib.Core.Path.{_∙_, sym}
 use borrow.Author.Count.{below-more}
 use lib.ListN.{length}
 use borrow.Author.Needs.{needs}
