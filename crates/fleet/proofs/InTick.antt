@@ -37,7 +37,7 @@ use Rattle.fleet.specs.Answer.{number}
 use Rattle.fleet.specs.Table.{agents, nothingHeld, standingOf, settled, shut, hasAgent, addVerdict, addCall, putVerdict, putCall, removeVerdict, removeCall, readCall}
 use Rattle.fleet.specs.Load.{loadVerdict, loadCall}
 use Rattle.fleet.specs.Tick.{openVerdict, openCall, goalVerdict, withHeld, holdGoal, goalSet, goalCall, ended, hasPlan, unplanned, astray, arrivals, allMoved, closeVerdict, closeOpen, closeIn, closeCall, opened, dropCall}
-use Rattle.fleet.specs.Plan.{requestFor, standing, neighbourIndices, neighboursOf, replyFor, plansAfter, fleetAfter, answeredBy, planOpen, planIn, planCall}
+use Rattle.fleet.specs.Plan.{requestFor, ownRecord, neighbourIndices, neighboursOf, replyFor, plansAfter, fleetAfter, answeredBy, planOpen, planIn, planCall}
 use Rattle.fleet.specs.Calls.{Call, step}
 use Rattle.fleet.specs.Runs.{after, accepted, stays, staysOpen, goalIn, goalsOf}
 use Rattle.fleet.proofs.Verdicts.{settled-passes}
@@ -67,7 +67,7 @@ module _ (rs : List Record) (timeStep : Float) (rule : Rule) (few : length rs �
 
   -- what the velocity call gives the agent at i, on the standing records
   abbrev callFor : ℕ → ℕ → Reply
-  callFor i k = velocityCall (requestFor (standing rs i) timeStep) (neighboursOf rule rs i) k
+  callFor i k = velocityCall (requestFor (ownRecord rs i) timeStep) (neighboursOf rule rs i) k
 
   -- the velocity due to it is the one that it is given with scratch enough
   abbrev pub due : ℕ → Vec3
@@ -83,7 +83,7 @@ module _ (rs : List Record) (timeStep : Float) (rule : Rule) (few : length rs �
   -- an answer is the one that scratch enough gives
   same-answer : (i k enough : ℕ) → i < length rs → fullScratch ≤ enough → isAnswered (callFor i k) ≡ true → callFor i enough ≡ callFor i k
   same-answer i k enough there fits answered =
-      any-scratch (requestFor (standing rs i) timeStep) (neighboursOf rule rs i) k enough (enough-scratch rule rs i enough few there fits) answered
+      any-scratch (requestFor (ownRecord rs i) timeStep) (neighboursOf rule rs i) k enough (enough-scratch rule rs i enough few there fits) answered
 
   -- whatever is planned is that velocity
   pub record Plans (plans : List Slot) : Type 0 where

@@ -17,7 +17,7 @@ use Rattle.avoidance.specs.Lent.{perAgent, agentNumbers}
 use Rattle.avoidance.proofs.AgentNumbers.{numbers-many}
 use Rattle.avoidance.specs.Checks.{neededScratch, fullScratch}
 use Rattle.records.specs.Record.{mostAgents, blank, agentOf}
-use Rattle.fleet.specs.Plan.{keeps, keptFrom, neighbourNumbers, standing, neighbourIndices, neighboursOf}
+use Rattle.fleet.specs.Plan.{keeps, keptFrom, neighbourNumbers, ownRecord, neighbourIndices, neighboursOf}
 use Rattle.fleet.specs.parts.Plan.{Lists, withNeighbour}
 
 numbers-more : (rs : List Record) (js : List ℕ) (j : ℕ) → neighbourNumbers rs (js ++ j ∷ []) ≡ neighbourNumbers rs js ++ agentNumbers (agentOf (getD rs j blank))
@@ -146,7 +146,7 @@ pub few-neighbours : (rule : Rule) (rs : List Record) (index : ℕ) → index < 
     → (length (neighboursOf rule rs index) ≡ perAgent * length (neighbourIndices rule rs index)) × (length (neighbourIndices rule rs index) < length rs)
 unfolding neighboursOf neighbourIndices
 few-neighbours rule rs index there =
-    (numbers-length rs _, kept-fewer rule (standing rs index) index 0 rs (omega arith) (omega (arith, there)))
+    (numbers-length rs _, kept-fewer rule (ownRecord rs index) index 0 rs (omega arith) (omega (arith, there)))
 
 -- scratch enough for any plan
 pub enough-scratch : (rule : Rule) (rs : List Record) (index k : ℕ) → length rs ≤ mostAgents → index < length rs → fullScratch ≤ k

@@ -33,7 +33,7 @@ use Rattle.fleet.specs.declared.Tick.the-variants.{Shut, Open}
 use Rattle.fleet.specs.declared.Fleet.{Fleet}
 use Rattle.fleet.specs.Table.{agents, settled, hasAgent}
 use Rattle.fleet.specs.Tick.{stepVerdict}
-use Rattle.fleet.specs.Plan.{keeps, keptFrom, neighbourNumbers, requestFor, standing, neighbourIndices, neighboursOf, replyFor, answeredBy, planOpen, planIn, planCall}
+use Rattle.fleet.specs.Plan.{keeps, keptFrom, neighbourNumbers, requestFor, ownRecord, neighbourIndices, neighboursOf, replyFor, answeredBy, planOpen, planIn, planCall}
 use Rattle.fleet.specs.Calls.{Call, step}
 use Rattle.fleet.specs.Sound.{Stored, Ticking, Sound, PassesOn}
 use Rattle.fleet.proofs.Lists.{Every}
@@ -82,7 +82,7 @@ kept-fit rule own index all j (r ∷ rs) stored =
 
 neighbours-fit : (rule : Rule) (rs : List Record) (index : ℕ) → Every Stored blank rs → FitNeighbours (length (neighbourIndices rule rs index)) (neighboursOf rule rs index)
 unfolding neighbourIndices neighboursOf
-neighbours-fit rule rs index stored = kept-fit rule (standing rs index) index rs 0 rs (λ i low high. stored i (omega (arith, high)))
+neighbours-fit rule rs index stored = kept-fit rule (ownRecord rs index) index rs 0 rs (λ i low high. stored i (omega (arith, high)))
 
 -- ---- what is passed on of its reply
 
@@ -105,8 +105,8 @@ module _ (fleet : Fleet) (sound : Sound fleet) (index k : ℕ) where
   reply-passes timeStep rule accepted there =
       let names = neighbourIndices rule rs index in
       passed-on names _
-      (fit-call (requestFor (standing rs index) timeStep) (neighboursOf rule rs index) (length names) k
-      (request-fit (standing rs index) timeStep (sound .stored index there) accepted) (neighbours-fit rule rs index (sound .stored))
+      (fit-call (requestFor (ownRecord rs index) timeStep) (neighboursOf rule rs index) (length names) k
+      (request-fit (ownRecord rs index) timeStep (sound .stored index there) accepted) (neighbours-fit rule rs index (sound .stored))
       (omega (arith, sound .few, few-neighbours rule rs index there .1)))
 
   open-passes : (timeStep : Float) (rule : Rule) → stepVerdict timeStep ≡ Passed → PassesOn (planOpen timeStep rule fleet index k .answer)

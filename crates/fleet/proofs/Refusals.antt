@@ -49,7 +49,7 @@ use Rattle.fleet.specs.Answer.{number, velocityOf}
 use Rattle.fleet.specs.Table.{agents, settled, shut, hasAgent, room, addVerdict, addCall, putVerdict, putCall, removeVerdict, removeCall, answerTo, readCall}
 use Rattle.fleet.specs.Load.{loadVerdict, loadCall}
 use Rattle.fleet.specs.Tick.{stepVerdict, openCall, goalFault, goalVerdict, goalCall, unplanned, astray, arrivals, openVerdict, closeVerdict, closeOpen, closeIn, closeCall, opened, dropCall}
-use Rattle.fleet.specs.Plan.{requestFor, standing, neighbourIndices, neighboursOf, replyFor, plansAfter, fleetAfter, answeredBy, planOpen, planIn, planCall}
+use Rattle.fleet.specs.Plan.{requestFor, ownRecord, neighbourIndices, neighboursOf, replyFor, plansAfter, fleetAfter, answeredBy, planOpen, planIn, planCall}
 use Rattle.fleet.specs.Calls.{Call, step, isOpen, noAgent, planConditions, closeConditions, callConditions}
 use Rattle.fleet.proofs.Verdicts.{settled-kept}
 
@@ -144,7 +144,7 @@ plan-says : (tick : Tick) (fleet : Fleet) (index k : ℕ) → refusalIn (planIn 
 unfolding planIn planOpen planConditions replyFor
 plan-says Shut fleet index k = settled-says (Refused refusal.NoTick) fleet fleet ((11, true) ∷ []) (held-says true refusal.NoTick)
 plan-says (Open timeStep rule) fleet index k =
-    let asked = requestFor (standing (agents fleet) index) timeStep in
+    let asked = requestFor (ownRecord (agents fleet) index) timeStep in
     let neighbours = neighboursOf rule (agents fleet) index in
     answered-says (hasAgent fleet index) fleet index _ ((8, noAgent fleet index) ∷ []) (velocityConditions asked neighbours k) (agent-says fleet index)
     (renamed-refused (neighbourIndices rule (agents fleet) index) (velocityCall asked neighbours k) ∙ by-conditions asked neighbours k)

@@ -35,7 +35,7 @@ use Rattle.fleet.specs.declared.Held.the-variants.{Nothing, Vector}
 use Rattle.fleet.specs.declared.Slot.{Slot}
 use Rattle.fleet.specs.Table.{nothingHeld}
 use Rattle.fleet.specs.Tick.{goalFault, goalVerdict, withHeld, goalTaken, goalsTaken, unplanned, arrival, astray, movedBy, arrivals, allMoved, closeVerdict}
-use Rattle.fleet.specs.Plan.{requestFor, standing, neighbourIndices, neighboursOf, replyFor, plansAfter}
+use Rattle.fleet.specs.Plan.{requestFor, ownRecord, neighbourIndices, neighboursOf, replyFor, plansAfter}
 use Rattle.fleet.specs.Sound.{Stored, Storable, AllStorable}
 use Rattle.fleet.proofs.Lists.{Every, every-set}
 use Rattle.fleet.proofs.Each.{each-at, each-length, each-every}
@@ -87,7 +87,7 @@ answer-storable : (timeStep : Float) (rule : Rule) (rs : List Record) (index k :
 unfolding replyFor requestFor
 answer-storable timeStep rule rs index k answered =
     let names = neighbourIndices rule rs index in
-    let own = standing rs index in
+    let own = ownRecord rs index in
     let request = requestFor own timeStep in
     let neighbours = neighboursOf rule rs index in
     let call = velocityCall request neighbours k in

@@ -21,7 +21,7 @@ use Rattle.fleet.specs.declared.Called.{Called}
 use Rattle.fleet.specs.Table.{agents, addCall, putCall, removeCall, readCall}
 use Rattle.fleet.specs.Load.{loadCall}
 use Rattle.fleet.specs.Tick.{unplanned, astray, arrivals, openCall, goalCall, closeCall, dropCall}
-use Rattle.fleet.specs.Plan.{requestFor, standing, neighboursOf, planCall}
+use Rattle.fleet.specs.Plan.{requestFor, ownRecord, neighboursOf, planCall}
 
 -- ---- calls
 
@@ -62,7 +62,7 @@ noAgent fleet index = leb (length (agents fleet)) index
 unfoldable pub planConditions : Tick → Fleet → ℕ → ℕ → List (ℕ × Bool)
 planConditions Shut fleet index scratchLength = (11, true) ∷ []
 planConditions (Open timeStep rule) fleet index scratchLength =
-    (8, noAgent fleet index) ∷ velocityConditions (requestFor (standing (agents fleet) index) timeStep) (neighboursOf rule (agents fleet) index) scratchLength
+    (8, noAgent fleet index) ∷ velocityConditions (requestFor (ownRecord (agents fleet) index) timeStep) (neighboursOf rule (agents fleet) index) scratchLength
 
 unfoldable pub closeConditions : Tick → Fleet → List (ℕ × Bool)
 closeConditions Shut fleet = (11, true) ∷ []

@@ -68,11 +68,11 @@ requestFor own timeStep = record {
   fallback = fallbackOf own;
 }
 
-abbrev pub standing : List Record → ℕ → Record
-standing rs index = getD rs index blank
+abbrev pub ownRecord : List Record → ℕ → Record
+ownRecord rs index = getD rs index blank
 
 unfoldable pub neighbourIndices : Rule → List Record → ℕ → List ℕ
-neighbourIndices rule rs index = keptFrom rule (standing rs index) index 0 rs
+neighbourIndices rule rs index = keptFrom rule (ownRecord rs index) index 0 rs
 
 unfoldable pub neighboursOf : Rule → List Record → ℕ → List Float
 neighboursOf rule rs index = neighbourNumbers rs (neighbourIndices rule rs index)
@@ -81,11 +81,11 @@ neighboursOf rule rs index = neighbourNumbers rs (neighbourIndices rule rs index
 unfoldable pub replyFor : Float → Rule → List Record → ℕ → ℕ → Reply
 replyFor timeStep rule rs index scratchLength =
     renamed (neighbourIndices rule rs index)
-    (velocityCall (requestFor (standing rs index) timeStep) (neighboursOf rule rs index) scratchLength)
+    (velocityCall (requestFor (ownRecord rs index) timeStep) (neighboursOf rule rs index) scratchLength)
 
 unfoldable pub replyScratch : Float → Rule → List Record → ℕ → List Float → List Float
 replyScratch timeStep rule rs index scratch =
-    scratchAfter (requestFor (standing rs index) timeStep) (neighboursOf rule rs index) scratch
+    scratchAfter (requestFor (ownRecord rs index) timeStep) (neighboursOf rule rs index) scratch
 
 -- ---- plan
 

@@ -13,11 +13,12 @@ use Rattle.spacing.specs.declared.pairs.Spot.{Spot}
 use Rattle.spacing.specs.Millimetres.{millimetres}
 use Rattle.spacing.specs.parts.Millimetres.{reach, fromCorner}
 use Rattle.spacing.specs.Frame.{Position, square, squared}
+use Rattle.spacing.specs.Answers.{mostAgents}
 use Rattle.spacing.specs.Tally.{withinReach}
 
 -- a frame that was let through
 pub record FitFrame (agents : ℕ) (frame : List Float) : Type 0 where
-  pub few : agents ≤ 64
+  pub few : agents ≤ mostAgents
   pub long : length frame ≡ 3 * agents
   pub within : withinReach 0 frame ≡ Done
 

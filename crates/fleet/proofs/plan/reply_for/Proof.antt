@@ -11,7 +11,7 @@ use Rattle.avoidance.specs.declared.Reply.{Reply}
 use Rattle.avoidance.specs.Reply.{renamed}
 use Rattle.avoidance.specs.Velocity.{velocityCall, scratchAfter}
 use Rattle.records.specs.Record.{blank}
-use Rattle.fleet.specs.Plan.{keptFrom, neighbourNumbers, requestFor, standing, neighbourIndices, neighboursOf, replyFor, replyScratch}
+use Rattle.fleet.specs.Plan.{keptFrom, neighbourNumbers, requestFor, ownRecord, neighbourIndices, neighboursOf, replyFor, replyScratch}
 use Rattle.records.specs.declared.Record.{Record}
 use Rattle.fleet.specs.declared.Rule.{Rule}
 use Rattle.fleet.proofs.Lists.{getD-there}
@@ -21,7 +21,7 @@ use Rattle.fleet.proofs.plan.reply_for.Tie as tie
 
 -- what is asked of the velocity call is what the definition asks
 module _ (timeStep : Float) (rule : Rule) (rs : List Record) (index : ℕ) (own : Record) (request : Request) (js : List ℕ) (numbers : List Float)
-    (own-is : own ≡ standing rs index) (request-is : request ≡ requestFor own timeStep) (js-are : js ≡ keptFrom rule own index 0 rs) (numbers-are : numbers ≡ neighbourNumbers rs (keptFrom rule own index 0 rs)) where
+    (own-is : own ≡ ownRecord rs index) (request-is : request ≡ requestFor own timeStep) (js-are : js ≡ keptFrom rule own index 0 rs) (numbers-are : numbers ≡ neighbourNumbers rs (keptFrom rule own index 0 rs)) where
   replied : (answer : Reply) (room : ℕ) → answer ≡ velocityCall request numbers room → renamed js answer ≡ replyFor timeStep rule rs index room
   unfolding replyFor neighbourIndices neighboursOf
   replied answer room is = rw (is, request-is, js-are, numbers-are, own-is)
