@@ -6,5 +6,3 @@ pub mod AgentNumbers
 pub mod Ranges
 pub mod Examples
 pub mod Velocities
-pub mod CallNumbers
-pub mod FitCalls

@@ -15,7 +15,7 @@ use Rattle.refusals.specs.declared.Verdict.{Verdict}
 use Rattle.refusals.specs.declared.Verdict.the-variants as verdict
 use Rattle.refusals.specs.Refusal as refusals
 use Rattle.refusals.specs.Verdict.{_⊳_, refusedIf, refusedAt, settledBy}
-use Rattle.refusals.proofs.Verdicts.{not-answered, both-passed, does-not-hold}
+use Rattle.refusals.proofs.Verdicts.{both-passed, does-not-hold}
 use Rattle.avoidance.specs.declared.Request.{Request}
 use Rattle.avoidance.specs.declared.Asked.the-variants.{Finite, InRange}
 use Rattle.avoidance.specs.declared.Reply.{Reply}
@@ -27,14 +27,6 @@ use Rattle.avoidance.specs.Velocity.{plannedReply, velocityCall}
 use Rattle.avoidance.proofs.Refusals.{refusedWith}
 
 -- ---- the number of an answer is 0
-
-pub answered-number : (reply : Reply) → isAnswered reply ≡ true → number reply ≡ 0
-answered-number (Answered course) e = refl
-answered-number (Refused r) e = no-truth e
-
-pub number-answered : (reply : Reply) → number reply ≡ 0 → isAnswered reply ≡ true
-number-answered (Answered course) e = refl
-number-answered (Refused r) e = absurd (not-answered r e)
 
 pub number-refused : (reply : Reply) → (number reply ≡ 0 → ⊥) → isAnswered reply ≡ false
 number-refused (Answered course) refused = absurd (refused refl)

@@ -18,7 +18,7 @@ use Rattle.solver.specs.declared.Outcome.{Outcome}
 use Rattle.solver.specs.declared.Outcome.the-variants.{Feasible, Infeasible, BadClamp}
 use Rattle.solver.specs.declared.Solution.{Solution}
 use Rattle.solver.specs.Solve.{solve}
-use Rattle.solver.proofs.Binary32.{solve-is-binary32}
+use Rattle.solver.proofs.solve.Binary32.{solve-is-binary32}
 use Rattle.avoidance.specs.declared.Request.{Request}
 use Rattle.avoidance.specs.declared.Reply.{Reply}
 use Rattle.avoidance.specs.declared.Reply.the-variants.{Answered, Refused}

@@ -1,2 +1,3 @@
 -- Laws of the velocity call, beside the proofs of its functions.
 pub mod Planes
+pub mod FitCalls

@@ -7,11 +7,14 @@ use refusals::Found;
 use refusals::Refusal;
 use vectors::Vec3;
 
+// The number of the refusal that names a neighbour.
+const NAMES_A_NEIGHBOUR: u32 = 6;
+
 // A refusal that names a neighbour, with the name that stands in the list for it.
 fn renamed_refusal(refusal: Refusal, names: &[usize]) -> Refusal
     ensures { λ r. ⌜ r ≡ renamedRefusal (now (names .entry)) refusal ⌝ }
 {
-    if refusal.number() != 6 {
+    if refusal.number() != NAMES_A_NEIGHBOUR {
         return refusal;
     }
     let neighbour = refusal.place();

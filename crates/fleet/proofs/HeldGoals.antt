@@ -44,11 +44,6 @@ unfolding holdAll
 hold-append held [] hs = refl
 hold-append held ((index, v) ∷ gs) hs = hold-append (withHeld held index v) gs hs
 
-pub hold-length : (held : List Slot) (gs : List (ℕ × Vec3)) → length (holdAll held gs) ≡ length held
-unfolding holdAll withHeld
-hold-length held [] = refl
-hold-length held ((index, v) ∷ gs) = hold-length (withHeld held index v) gs ∙ length-set held index (slot (Vector v))
-
 -- one after another
 unfoldable pub applied : List Record → List (ℕ × Vec3) → List Record
 applied rs [] = rs

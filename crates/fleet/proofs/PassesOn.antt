@@ -20,8 +20,8 @@ use Rattle.avoidance.specs.Checks.{outside}
 use Rattle.avoidance.specs.Reply.{number, renamed}
 use Rattle.avoidance.proofs.Ranges.{above-zero}
 use Rattle.avoidance.proofs.ReplyLaws.{renamed-number, renamed-place}
-use Rattle.avoidance.proofs.CallNumbers.{Allowed, FitAgent, FitRequest, FitNeighbours}
-use Rattle.avoidance.proofs.FitCalls.{FitReply, fit-call}
+use Rattle.avoidance.proofs.checks.CallNumbers.{Allowed, FitAgent, FitRequest, FitNeighbours}
+use Rattle.avoidance.proofs.velocity.FitCalls.{FitReply, fit-call}
 use Rattle.records.specs.declared.Record.{Record}
 use Rattle.records.specs.Record.{blank, agentOf}
 use Rattle.records.proofs.Passed.{passed-fallback}

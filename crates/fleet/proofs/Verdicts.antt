@@ -26,10 +26,6 @@ pub settled-passed : {v : Verdict} {made next : Fleet} (fleet : Fleet) → made 
 unfolding settled
 settled-passed fleet same e = rw (same, e)
 
-pub settled-next : (v : Verdict) (fleet next : Fleet) → v ≡ Passed → settled v fleet next .fleet ≡ next
-unfolding settled
-settled-next v fleet next e = rw e
-
 -- an answer has the number 0 only where the checks passed
 pub settled-passes : (v : Verdict) (fleet next : Fleet) → number (settled v fleet next .answer) ≡ 0 → v ≡ Passed
 unfolding settled

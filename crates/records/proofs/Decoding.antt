@@ -1,5 +1,5 @@
 -- A file that passed is decoded as its records, of which there are at most 64, and a reader hands out those very records.
-use mathlib.Core.Path.{_≡_, refl, sym, ap, _∙_}
+use mathlib.Core.Path.{_≡_, refl, ap, _∙_}
 use mathlib.Core.List.{List}
 use Prim.Native.Nat.{ℕ, _+_, _-_, _*_, _/_, _≤_, _<_}
 use native.Mathlib.Nat.{zero-add}
@@ -30,9 +30,6 @@ decoded-verdict file = go (fileVerdict file) (recordsOf file)
     go : (v : Verdict) (rs : List Record) → settledBy v undecoded (decodedAs rs) .verdict ≡ v
     go Passed rs = refl
     go (Refused r) rs = refl
-
-pub decoded-passed : (file : List ℕ) → decoded file .verdict ≡ Passed → fileVerdict file ≡ Passed
-decoded-passed file e = sym (decoded-verdict file) ∙ e
 
 pub decoded-is : (file : List ℕ) → fileVerdict file ≡ Passed → decoded file ≡ decodedAs (recordsOf file)
 unfolding decoded

@@ -8,9 +8,9 @@ use Rattle.vectors.specs.Vec3.{finiteVec}
 use Rattle.vectors.proofs.Finite.{finite-whole}
 use Rattle.refusals.specs.declared.Verdict.the-variants.{Passed}
 use Rattle.avoidance.specs.declared.Kind.the-variants.{NotNegative, Positive}
-use Rattle.avoidance.proofs.CallNumbers.{Allowed, FitAgent}
+use Rattle.avoidance.proofs.checks.CallNumbers.{Allowed, FitAgent}
 use Rattle.records.specs.declared.Record.{Record}
-use Rattle.records.specs.Record.{perRecord, positionWord, velocityWord, radiusWord, responsibilityWord, maxSpeedWord, horizonWord, fallbackWord, marginWord, numberAt, vectorAt, maxSpeedOf, horizonOf, fallbackOf, agentOf}
+use Rattle.records.specs.Record.{perRecord, positionWord, velocityWord, radiusWord, responsibilityWord, maxSpeedWord, horizonWord, fallbackWord, marginWord, numberAt, vectorFrom, maxSpeedOf, horizonOf, fallbackOf, agentOf}
 use Rattle.records.specs.Checks.{wordKind, recordVerdict}
 use Rattle.records.proofs.Passed.{passed-finite, passed-kind}
 
@@ -18,9 +18,9 @@ module _ (r : Record) (passed : recordVerdict 0 r ≡ Passed) (all : length (r .
   allowed : (place : ℕ) → place < marginWord → Allowed (wordKind place) (numberAt r place)
   allowed place h = (passed-finite r passed place (omega arith) all (λ e. omega arith), passed-kind r passed all place (omega arith))
 
-  vector-finite : (place : ℕ) → place + 2 < marginWord → finiteVec (vectorAt r place) ≡ true
-  unfolding vectorAt
-  vector-finite place h = finite-whole (vectorAt r place) (allowed place (omega arith) .0) (allowed (place + 1) (omega arith) .0) (allowed (place + 2) h .0)
+  vector-finite : (place : ℕ) → place + 2 < marginWord → finiteVec (vectorFrom r place) ≡ true
+  unfolding vectorFrom
+  vector-finite place h = finite-whole (vectorFrom r place) (allowed place (omega arith) .0) (allowed (place + 1) (omega arith) .0) (allowed (place + 2) h .0)
 
   pub fit-agent : FitAgent (agentOf r)
   unfolding agentOf wordKind

@@ -20,7 +20,7 @@ use Rattle.avoidance.specs.declared.Asked.the-variants.{Finite, InRange}
 use Rattle.avoidance.specs.declared.Kind.the-variants.{Any}
 use Rattle.avoidance.proofs.Ranges.{never-outside}
 use Rattle.records.specs.declared.Record.{Record}
-use Rattle.records.specs.Record.{positionWord, velocityWord, goalWord, fallbackWord, marginWord, distanceWord, wordAt, numberAt, vectorAt, withVector, withGoal, movedTo}
+use Rattle.records.specs.Record.{positionWord, velocityWord, goalWord, fallbackWord, marginWord, distanceWord, wordAt, numberAt, vectorFrom, withVector, withGoal, movedTo}
 use Rattle.records.specs.Checks.{badMargin, wordKind, badWord, recordVerdict}
 use Rattle.records.proofs.Passed.{Fit, passed-fit, fit-passed}
 
@@ -35,7 +35,7 @@ module _ (r : Record) (i : ℕ) (x : Float) (before : i < fallbackWord) where
   unread place h = getD-set-other (r .words) i place (toWord x) 0 (λ e. omega arith)
 
   word-fit : wordKind i ≡ Any → finite x ≡ true → T (fits binary32 x) → Fit r → Fit put
-  unfolding badMargin badWord vectorAt numberAt
+  unfolding badMargin badWord vectorFrom numberAt
   word-fit kind x-finite is fit = record {
     margin = rw (unread marginWord (omega arith), unread distanceWord (omega arith)) (fit .margin);
     all-finite = set-good (badWord Finite) (r .words) i (toWord x) 0 (rw (ne-eqb i marginWord (λ e. omega arith), stored-finite x is x-finite)) (fit .all-finite);

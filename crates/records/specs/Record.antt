@@ -59,14 +59,14 @@ wordAt r place = getD (r .words) place 0
 unfoldable pub numberAt : Record → ℕ → Float
 numberAt r place = ofWord (wordAt r place)
 
-unfoldable pub vectorAt : Record → ℕ → Vec3
-vectorAt r place = record { x = numberAt r place; y = numberAt r (place + 1); z = numberAt r (place + 2) }
+unfoldable pub vectorFrom : Record → ℕ → Vec3
+vectorFrom r place = record { x = numberAt r place; y = numberAt r (place + 1); z = numberAt r (place + 2) }
 
 abbrev pub positionOf : Record → Vec3
-positionOf r = vectorAt r positionWord
+positionOf r = vectorFrom r positionWord
 
 abbrev pub velocityIn : Record → Vec3
-velocityIn r = vectorAt r velocityWord
+velocityIn r = vectorFrom r velocityWord
 
 abbrev pub radiusOf : Record → Float
 radiusOf r = numberAt r radiusWord
@@ -75,7 +75,7 @@ abbrev pub responsibilityOf : Record → Float
 responsibilityOf r = numberAt r responsibilityWord
 
 abbrev pub goalOf : Record → Vec3
-goalOf r = vectorAt r goalWord
+goalOf r = vectorFrom r goalWord
 
 abbrev pub maxSpeedOf : Record → Float
 maxSpeedOf r = numberAt r maxSpeedWord
@@ -84,7 +84,7 @@ abbrev pub horizonOf : Record → Float
 horizonOf r = numberAt r horizonWord
 
 abbrev pub fallbackOf : Record → Vec3
-fallbackOf r = vectorAt r fallbackWord
+fallbackOf r = vectorFrom r fallbackWord
 
 -- as the velocity call takes it
 unfoldable pub agentOf : Record → Agent

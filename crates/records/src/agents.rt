@@ -2,7 +2,7 @@
 // `specs/Record.antt`.
 ghost use mathlib.Core.Path.{_≡_};
 ghost use Prim.Native.Nat.{_+_, _<_};
-ghost use Rattle.records.specs.Record.{perRecord, blank, numberAt, vectorAt, withVector, positionOf, radiusOf, goalOf, maxSpeedOf, horizonOf, fallbackOf, agentOf, withGoal, movedTo};
+ghost use Rattle.records.specs.Record.{perRecord, blank, numberAt, vectorFrom, withVector, positionOf, radiusOf, goalOf, maxSpeedOf, horizonOf, fallbackOf, agentOf, withGoal, movedTo};
 use super::FALLBACK_WORD;
 use super::GOAL_WORD;
 use super::HORIZON_WORD;
@@ -38,7 +38,7 @@ impl Record {
     // The vector whose first number is at `place`.
     fn vector(self, place: usize) -> Vec3
         requires { ⌜ place + 2 < perRecord ⌝ }
-        ensures { λ r. ⌜ r ≡ vectorAt self place ⌝ }
+        ensures { λ r. ⌜ r ≡ vectorFrom self place ⌝ }
     {
         Vec3 {
             x: self.number(place),

@@ -5,4 +5,3 @@ pub mod LentPlanes
 pub mod LeftOver
 pub mod InTurn
 pub mod NoBadClamp
-pub mod Binary32

@@ -1,14 +1,14 @@
 -- What a number is that is stored as a word and read back, and which vectors have only components that a word holds.
---     word-back, stored-finite; sum-is, difference-is, product-is, quotient-is, normalize-is, zero-is, plus-zeros-is; plus-zeros-finite
+--     word-back, stored-finite; sum-is, difference-is, product-is, zero-is, plus-zeros-is; plus-zeros-finite
 use mathlib.Core.Path.{_≡_, refl, ap, _∙_}
 use mathlib.Core.Bool.{Bool, true, false, cond}
 use lib.Dec.{T}
 use lib.Ieee.{Float, binary32, fits, eq, ofBits}
-use lib.Ieee.Fits.{cond-fits, add-fits, sub-fits, mul-fits, div-fits}
+use lib.Ieee.Fits.{cond-fits, add-fits, sub-fits, mul-fits}
 use lib.Ieee.Bits.{ofBits-toBits, ofBits-fits}
 use Rattle.vectors.specs.declared.Vec3.{Vec3}
 use Rattle.vectors.specs.Number.{ofWord, toWord, zero, finite, plusZero}
-use Rattle.vectors.specs.Vec3.{zeroVec, _+ᵥ_, _-ᵥ_, _*ᵥ_, _/ᵥ_, lengthRecip, normalize, finiteVec, plusZeros, IsBinary32}
+use Rattle.vectors.specs.Vec3.{zeroVec, _+ᵥ_, _-ᵥ_, _*ᵥ_, finiteVec, plusZeros, IsBinary32}
 use Rattle.vectors.proofs.Finite.{finite-parts, finite-whole}
 
 -- ---- numbers
@@ -32,14 +32,6 @@ difference-is u v = (sub-fits binary32 _ _, sub-fits binary32 _ _, sub-fits bina
 pub product-is : (v : Vec3) (s : Float) → IsBinary32 (v *ᵥ s)
 unfolding _*ᵥ_
 product-is v s = (mul-fits binary32 _ _, mul-fits binary32 _ _, mul-fits binary32 _ _)
-
-pub quotient-is : (v : Vec3) (s : Float) → IsBinary32 (v /ᵥ s)
-unfolding _/ᵥ_
-quotient-is v s = (div-fits binary32 _ _, div-fits binary32 _ _, div-fits binary32 _ _)
-
-pub normalize-is : (v : Vec3) → IsBinary32 (normalize v)
-unfolding normalize
-normalize-is v = product-is v (lengthRecip v)
 
 pub zero-is : IsBinary32 zeroVec
 unfolding zeroVec

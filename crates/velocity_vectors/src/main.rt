@@ -23,10 +23,10 @@ ghost use Rattle.velocity_vectors.specs.Cases.{Sized, Kept};
 
 mod answers;
 mod cases;
+mod judgements;
 mod keys;
 mod report;
 mod scratch;
-mod verdicts;
 
 use answers::Answer;
 use answers::Wanted;
@@ -72,7 +72,7 @@ fn run_in(scratch: &mut [f32], case: Case, wanted: Answer) -> bool
     let length = case.length;
     scratch::fill_with(scratch, case.fill);
     let got = call(&numbers[0..length], scratch);
-    report::say_verdict(verdicts::judge(case, wanted, got, scratch), got)
+    report::say_judgement(judgements::judge(case, wanted, got, scratch), got)
 }
 
 fn run(case: Case, wanted: Answer) -> bool

@@ -1,6 +1,6 @@
 // What is printed, and the counts of it.
 use super::answers::Answer;
-use super::verdicts::Verdict;
+use super::judgements::Judgement;
 use libc::STDOUT_FILENO;
 
 pub struct Tally {
@@ -57,8 +57,8 @@ fn say_answer(answer: Answer) {
 }
 
 // Where the two are different: the answer that was got, and the first index at which scratch is not as wanted.
-pub(crate) fn say_verdict(verdict: Verdict, got: Answer) -> bool {
-    let Verdict::Different(index) = verdict else {
+pub(crate) fn say_judgement(judgement: Judgement, got: Answer) -> bool {
+    let Judgement::Different(index) = judgement else {
         say(b"same\n");
         return true;
     };

@@ -1,5 +1,5 @@
 -- `Record::vector` is the three numbers from a place on.
-use Rattle.records.specs.Record.{vectorAt}
+use Rattle.records.specs.Record.{vectorFrom}
 use borrow.Author.Needs.{needs}
 use Rattle.records.proofs.Record.vector.Statement.{statement}
 use Rattle.records.proofs.Record.vector.Tie as tie
@@ -20,7 +20,7 @@ number-requires-3 : tie.Need-number-requires-3
 number-requires-3 c κs = search needs
 
 returns : tie.Need-returns
-unfolding vectorAt
+unfolding vectorFrom
 returns c = simp (← c .before .before .number .ensures, ← c .before .number2 .ensures, ← c .number3 .ensures)
 
 pub vector-spec : {M : Type 1} → statement M

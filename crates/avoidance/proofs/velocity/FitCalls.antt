@@ -31,7 +31,7 @@ use Rattle.avoidance.specs.Reply.{number, placeOf}
 use Rattle.avoidance.specs.Velocity.{planesOfCall, badPlane, answered, replyOf, planesVerdict, plannedReply, velocityCall}
 use Rattle.avoidance.proofs.AgentNumbers.{numbers-many}
 use Rattle.avoidance.proofs.Ranges.{never-outside}
-use Rattle.avoidance.proofs.CallNumbers.{FitRequest, FitNeighbours, vectorNumbers, firstFrom, first-preferred}
+use Rattle.avoidance.proofs.checks.CallNumbers.{FitRequest, FitNeighbours, vectorNumbers, firstFrom, first-preferred}
 
 pub data FitReply (reply : Reply) : Type 0 where
   isAnswer : number reply ≡ 0 → FitReply reply

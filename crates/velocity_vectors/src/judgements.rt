@@ -9,23 +9,23 @@ use super::cases::Case;
 use super::scratch::first_different;
 
 // What is different is the answer, or the number of scratch at an index: where scratch is as wanted, its length.
-pub enum Verdict {
+pub enum Judgement {
     Same,
     Different(usize),
 }
 
-pub(crate) fn judge(case: Case, wanted: Answer, got: Answer, scratch: &[f32]) -> Verdict
+pub(crate) fn judge(case: Case, wanted: Answer, got: Answer, scratch: &[f32]) -> Judgement
     requires { ⌜ Sized case × (length (now scratch) ≤ 800) ⌝ }
-    ensures { λ r. ⌜ (r ≡ Verdict.Same → Same case wanted got (now (scratch .entry))) ⌝ }
+    ensures { λ r. ⌜ (r ≡ Judgement.Same → Same case wanted got (now (scratch .entry))) ⌝ }
 {
     let neighbours = (case.length - 17) / 8;
     let planes = case.planes;
     let index = first_different(scratch, wanted.number, neighbours, &planes, case.fill);
     if index < scratch.len() {
-        return Verdict::Different(index);
+        return Judgement::Different(index);
     }
     if is_same(wanted, got) {
-        return Verdict::Same;
+        return Judgement::Same;
     }
-    Verdict::Different(index)
+    Judgement::Different(index)
 }

@@ -1,11 +1,11 @@
--- `velocity_vectors::verdicts::judge` meets its contract: it says `Same` only where nothing different was found in scratch or in the answer.
+-- `velocity_vectors::judgements::judge` meets its contract: it says `Same` only where nothing different was found in scratch or in the answer.
 -- Assumes nothing.
 use Prim.Native.Nat.{ℕ}
 use mathlib.Core.Path.{_≡_}
 use native.Mathlib.Omega.{arith}
 use borrow.Author.Needs.{needs}
-use Rattle.velocity_vectors.proofs.verdicts.judge.Statement.{statement}
-use Rattle.velocity_vectors.proofs.verdicts.judge.Tie as tie
+use Rattle.velocity_vectors.proofs.judgements.judge.Statement.{statement}
+use Rattle.velocity_vectors.proofs.judgements.judge.Tie as tie
 
 never : {A : Type 0} → _≡_ {A = ℕ} 0 1 → A
 never e = absurd (omega arith)

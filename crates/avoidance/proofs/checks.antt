@@ -1,0 +1,2 @@
+-- Laws of the checks, beside the proofs of their functions.
+pub mod CallNumbers
