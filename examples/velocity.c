@@ -1,6 +1,6 @@
 /*
- * A start for a program in C: the worked examples of document 01 that need one neighbour, through the
- * static library. examples/run builds it and compares what it prints with examples/stdout.
+ * A start for a program in C: the worked examples of document 01 that need one neighbour, and three
+ * refusals, through the static library. examples/run builds it and compares what it prints with examples/stdout.
  */
 #include <inttypes.h>
 #include <stdio.h>
@@ -21,14 +21,18 @@ struct request {
 _Static_assert(sizeof(struct agent) == GUINEACRUMB_AGENT_LENGTH * sizeof(float), "no gaps");
 _Static_assert(sizeof(struct request) == GUINEACRUMB_REQUEST_LENGTH * sizeof(float), "no gaps");
 
-static void show(const char *name, const struct request *request, const struct agent *neighbour) {
-    float scratch[GUINEACRUMB_SCRATCH_LENGTH(1)];
+/* One more than a call takes. */
+enum { TOO_MANY = GUINEACRUMB_MOST_NEIGHBOURS + 1 };
+
+static void show(const char *name, const struct request *request, const struct agent *neighbours,
+                 size_t count) {
+    float scratch[GUINEACRUMB_SCRATCH_LENGTH(TOO_MANY)];
     float velocity[GUINEACRUMB_VELOCITY_LENGTH];
     uint64_t place, relaxed;
-    uint32_t answer = guineacrumb_velocity((const float *)request, GUINEACRUMB_REQUEST_LENGTH,
-                                           (const float *)neighbour, GUINEACRUMB_AGENT_LENGTH, scratch,
-                                           GUINEACRUMB_SCRATCH_LENGTH(1), velocity,
-                                           GUINEACRUMB_VELOCITY_LENGTH, &place, &relaxed);
+    uint32_t answer = guineacrumb_velocity(
+        (const float *)request, GUINEACRUMB_REQUEST_LENGTH, (const float *)neighbours,
+        count * GUINEACRUMB_AGENT_LENGTH, scratch, GUINEACRUMB_SCRATCH_LENGTH(TOO_MANY), velocity,
+        GUINEACRUMB_VELOCITY_LENGTH, &place, &relaxed);
     printf("%s: ", name);
     if (answer != 0) {
         printf("refused, %" PRIu32 " at %" PRIu64 "\n", answer, place);
@@ -58,15 +62,27 @@ int main(void) {
     const float preferred[] = {0.5f, 1, 1.5f, 4};
     for (int i = 0; i < 4; i++) {
         request.preferred[0] = preferred[i];
-        show("a neighbour ahead", &request, &neighbour);
+        show("a neighbour ahead", &request, &neighbour, 1);
     }
 
     request.preferred[0] = 0;
     request.max_speed = 1;
     neighbour.position[0] = 0;
-    show("a neighbour at the same place", &request, &neighbour);
+    show("a neighbour at the same place", &request, &neighbour, 1);
 
     request.time_step = 0;
-    show("a time step of 0", &request, &neighbour);
+    show("a time step of 0", &request, &neighbour, 1);
+
+    static const struct agent many[TOO_MANY];
+    request.time_step = 1;
+    show("too many neighbours", &request, many, TOO_MANY);
+
+    /* Two neighbours at the same place, one of them far too fast. */
+    request.horizon = 1;
+    request.agent.velocity[1] = 1;
+    request.fallback[0] = 1;
+    request.fallback[2] = 0;
+    const struct agent points[] = {{.radius = 0}, {.velocity = {0, 0, 4.7157917e22f}}};
+    show("a bad pair of bounds", &request, points, 2);
     return 0;
 }

@@ -68,29 +68,42 @@ float guineacrumb_root(float x);
  *
  *     number   given exactly when                                                  place
  *     0        the velocity is written                                             0
- *     1        the neighbours are not a multiple of 8 numbers, or over 63          0
+ *     1        the neighbours are not a multiple of 8 numbers                      0
+ *     17       there are over 63 neighbours                                        their number
  *     2        scratch is shorter than 12 numbers to each neighbour                the numbers needed
  *     3        a number is not finite                                              see below
  *     4        a radius, a responsibility or the maximum speed is below 0, or
  *              the time step or the horizon is not above 0                         see below
  *     5        the fallback dotted with itself is below 0.99999 or above 1.00001   14
  *     6        a neighbour's plane has a component that is not finite              the first such neighbour
- *     7        no velocity comes out: the Rust would panic in a clamp, or give
- *              one that is not finite                                              0
+ *     18       a clamp's lower bound is not <= its upper, as where one is a NaN:
+ *              there the Rust panics                                               the plane solved on
+ *     7        the velocity is not finite                                          0
  *     255      request is not 17 numbers, or velocity not 3                        not written
  *
- * They are tried in the order 255, 1 to 7, each over all its numbers before the next. The place for 3 and 4
- * is the lowest bad one: 0-16 in the request, 17 + 8 * k + j for number j of neighbour k.
+ * They are tried in this order, 255 first, each over all its numbers before the next. The place for 3 and 4
+ * is the lowest bad one: 0-16 in the request, 17 + 8 * k + j for number j of neighbour k. Plane k is that of
+ * neighbour k.
+ *
+ * What to do about a refusal; until then, the drone has no velocity from this call:
+ *
+ *     1, 2, 255   lend the lengths that are said above
+ *     17          leave out the farthest neighbours until 63 are left
+ *     3, 4, 5     mend the number at the place, or find out where it came from
+ *     6           leave out the neighbour that the place names, or bring its numbers nearer to yours in size
+ *     18          numbers of very different sizes met on the plane that the place names: look at that
+ *                 neighbour, and at the maximum speed, first
+ *     7           the same, with no one plane to name
  *
  * With 0, relaxed is the plane from which the velocity is relaxed, where the planes leave none free, and
  * GUINEACRUMB_NO_PLANE where it is free. A zero component is written as +0.
  *
- * With 1 to 7, the velocity is three +0s and relaxed is GUINEACRUMB_NO_PLANE. With 255, nothing is
- * written.
+ * With a refusal but 255, the velocity is three +0s and relaxed is GUINEACRUMB_NO_PLANE. With 255, nothing
+ * is written.
  *
  * Scratch, with n neighbours: 0 leaves their planes in its first 6n numbers, in order, each a point and a
- * normal, and +0 in the next 6n; 6 and 7 leave +0 in its first 12n; 1 to 5 and 255 leave it as it was.
- * Numbers past 12n are never touched.
+ * normal, and +0 in the next 6n; 6, 18 and 7 leave +0 in its first 12n; 1, 17, 2 to 5 and 255 leave it as
+ * it was. Numbers past 12n are never touched.
  */
 uint32_t guineacrumb_velocity(const float *request, size_t request_length, const float *neighbours,
                               size_t neighbours_length, float *scratch, size_t scratch_length,

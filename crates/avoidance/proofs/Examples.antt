@@ -29,9 +29,9 @@ use Rattle.solver.specs.Lent.{scratchFor}
 use Rattle.avoidance.specs.Lent.{agentCount, vectorAt, agentAt}
 use Rattle.avoidance.specs.Request.{requestNumbers}
 use Rattle.avoidance.specs.Neighbour.{planeFor, relationOf, projected, projectedFree, projectedCollision, collisionNormal, onSphere, onCone, coneTime, share}
-use Rattle.avoidance.specs.Checks.{checks, badFallback, badNeighbours, firstOf, badNumber, outside, callKind}
+use Rattle.avoidance.specs.Checks.{checks, badFallback, firstOf, badNumber, outside, callKind}
 use Rattle.solver.specs.Solve.{solve, valueOf}
-use Rattle.avoidance.specs.Velocity.{planesOfCall, planesFrom, planeOf, finitePlane, answered, replyOf, planesVerdict, plannedReply, velocityCall}
+use Rattle.avoidance.specs.Velocity.{planesOfCall, planesFrom, planeOf, finitePlane, answeredWith, outcomeReply, replyOf, planesVerdict, plannedReply, velocityCall}
 
 -- ---- what an example says
 
@@ -141,5 +141,5 @@ pub worked-examples : All (
     -- no neighbours, and a square that underflows
     ∷ reply (still tiny zero) [] (free (along tiny))
     ∷ [])
-unfolding threeD startIn fromPlane byPlane inTurn alongPlane startOn startInCircle onCircle lineOn fromLine byLine byConstraint alongLine bestOn atClamped pointOn cutAll cutBy openOr signedDistance fourD relaxBy relaxedTo turnedAll kept turnBy turnedPlane _+ᵥ_ _-ᵥ_ _*ᵥ_ dot cross lengthSquared normalize root larger smaller clamped add sub mul div neg lt le eq isNan ofBits planesOfCall planesFrom planeOf vectorAt agentAt planeFor relationOf projected projectedFree projectedCollision collisionNormal onSphere onCone coneTime share _/ᵥ_ lengthRecip normalizeOrZero zeroVec finite plusZero finiteVec finitePlane plusZeros answered replyOf planesVerdict plannedReply velocityCall solve valueOf checks badFallback badNeighbours firstOf badNumber outside callKind requestNumbers firstHolding marked
+unfolding threeD startIn fromPlane byPlane inTurn alongPlane startOn startInCircle onCircle lineOn fromLine byLine byConstraint alongLine bestOn atClamped pointOn cutAll cutBy openOr signedDistance fourD relaxBy relaxedTo turnedAll kept turnBy turnedPlane _+ᵥ_ _-ᵥ_ _*ᵥ_ dot cross lengthSquared normalize root larger smaller clamped add sub mul div neg lt le eq isNan ofBits planesOfCall planesFrom planeOf vectorAt agentAt planeFor relationOf projected projectedFree projectedCollision collisionNormal onSphere onCone coneTime share _/ᵥ_ lengthRecip normalizeOrZero zeroVec finite plusZero finiteVec finitePlane plusZeros answeredWith outcomeReply replyOf planesVerdict plannedReply velocityCall solve valueOf checks badFallback firstOf badNumber outside callKind requestNumbers firstHolding marked
 worked-examples = (refl, (refl, (refl, (refl, (refl, (refl, (refl, (refl, (refl, (refl, (refl, (refl, (refl, tt)))))))))))))

@@ -1,5 +1,6 @@
 -- What is proved of the definitions themselves.
 pub mod Refusals
+pub mod SameInputs
 pub mod ReplyLaws
 pub mod RequestLaws
 pub mod AgentNumbers

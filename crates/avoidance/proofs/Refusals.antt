@@ -1,5 +1,5 @@
 -- Each refusal of the velocity call is given exactly when document 01 says.
---     refused-1 … refused-7: answer N if and only if N's condition is the first that holds
+--     refused-1 … refused-7, refused-17, refused-18: answer N if and only if N's condition is the first that holds
 --     answered-0: answer 0 if and only if none holds
 --     lowest-place: the place of answers 3 and 4 is the lowest of a number that is bad
 --     lowest-plane: the neighbour of answer 6 is the lowest whose plane is not finite
@@ -8,7 +8,7 @@
 --     scratch-unread: of scratch only the length is read
 --     same-call: two calls that meet the promise answer alike and leave the same scratch
 use mathlib.Core.Path.{_≡_, refl, sym, ap, _∙_}
-use mathlib.Core.Bool.{Bool, true, false, not, _||_, cond}
+use mathlib.Core.Bool.{Bool, true, false, not, cond}
 use mathlib.Core.List.{List, [], _∷_, _++_}
 use mathlib.Core.Logic.{_↔_}
 use Prim.Native.Nat.{ℕ, suc}
@@ -16,6 +16,7 @@ use native.Mathlib.Omega.{arith}
 use lib.ListN.{length}
 use lib.Ieee.{Float, nan}
 use Rattle.vectors.specs.Promise.{determined}
+use Rattle.vectors.specs.declared.Vec3.{Vec3}
 use Rattle.vectors.specs.Vec3.{zeroVec, finiteVec, plusZeros}
 use Rattle.refusals.specs.declared.Found.{Found}
 use Rattle.refusals.specs.declared.Found.the-variants.{At, Nothing}
@@ -30,18 +31,18 @@ use Rattle.refusals.proofs.Verdicts.{not-answered, said, Says, then, held-says,
 use Rattle.solver.specs.declared.Plane.{Plane}
 use Rattle.solver.specs.declared.Outcome.{Outcome}
 use Rattle.solver.specs.declared.Outcome.the-variants.{Feasible, Infeasible, BadClamp}
-use Rattle.solver.specs.declared.Solution.{Solution}
 use Rattle.solver.specs.Solve.{solve}
 use Rattle.avoidance.specs.declared.Request.{Request}
 use Rattle.avoidance.specs.declared.Asked.{Asked}
 use Rattle.avoidance.specs.declared.Asked.the-variants.{Finite, InRange}
 use Rattle.avoidance.specs.declared.Reply.{Reply}
 use Rattle.avoidance.specs.declared.Reply.the-variants.{Answered, Refused}
+use Rattle.avoidance.specs.Lent.{agentCount}
 use Rattle.avoidance.specs.Request.{fallbackPlace}
-use Rattle.avoidance.specs.Checks.{badNumber, callNumbers, firstOf, badNeighbours, neededScratch, shortScratch, badFallback, checks}
+use Rattle.avoidance.specs.Checks.{badNumber, callNumbers, firstOf, ragged, tooMany, neededScratch, shortScratch, badFallback, checks}
 use Rattle.avoidance.specs.Reply.{number, velocityOf}
-use Rattle.avoidance.specs.Velocity.{planesOfCall, badPlane, answered, replyOf, planesVerdict, plannedReply, velocityCall, scratchAfter}
-use Rattle.avoidance.specs.Conditions.{badClamp, noVelocity, velocityConditions}
+use Rattle.avoidance.specs.Velocity.{planesOfCall, badPlane, answeredWith, outcomeReply, replyOf, planesVerdict, plannedReply, velocityCall, scratchAfter}
+use Rattle.avoidance.specs.Conditions.{badClamp, velocityConditions}
 
 -- ---- the lowest place
 
@@ -69,7 +70,7 @@ reply-says v reply cs ds e f = said-first v reply ∙ ap (λ (found : Found). or
 
 checks-say : (request : Request) (neighbours : List Float) (k : ℕ)
     → Says (checks request neighbours k)
-    ((1, badNeighbours neighbours) ∷ (2, shortScratch neighbours k) ∷ (3, some (marked (badNumber Finite) 0 (callNumbers request neighbours))) ∷ (4, some (marked (badNumber InRange) 0 (callNumbers request neighbours))) ∷ (5, badFallback (request .fallback)) ∷ [])
+    ((1, ragged neighbours) ∷ (17, tooMany neighbours) ∷ (2, shortScratch neighbours k) ∷ (3, some (marked (badNumber Finite) 0 (callNumbers request neighbours))) ∷ (4, some (marked (badNumber InRange) 0 (callNumbers request neighbours))) ∷ (5, badFallback (request .fallback)) ∷ [])
 unfolding checks firstOf
 checks-say request neighbours k =
     let numbers = callNumbers request neighbours in
@@ -78,34 +79,49 @@ checks-say request neighbours k =
     let outside = refusedAt (firstBad (badNumber InRange) 0 numbers) refusal.OutOfRange in
     let unfinite = refusedAt (firstBad (badNumber Finite) 0 numbers) refusal.NotFinite in
     let short = refusedIf (shortScratch neighbours k) (refusal.ShortScratch (neededScratch neighbours)) in
-    then (refusedIf (badNeighbours neighbours) refusal.BadNeighbours) (short ⊳ unfinite ⊳ outside ⊳ unfit) ((1, badNeighbours neighbours) ∷ []) _ (held-says (badNeighbours neighbours) refusal.BadNeighbours)
+    let many = refusedIf (tooMany neighbours) (refusal.TooManyNeighbours (agentCount neighbours)) in
+    then (refusedIf (ragged neighbours) refusal.RaggedNeighbours) (many ⊳ short ⊳ unfinite ⊳ outside ⊳ unfit) ((1, ragged neighbours) ∷ []) _ (held-says (ragged neighbours) refusal.RaggedNeighbours)
+    (then many (short ⊳ unfinite ⊳ outside ⊳ unfit) ((17, tooMany neighbours) ∷ []) _ (held-says (tooMany neighbours) (refusal.TooManyNeighbours (agentCount neighbours)))
     (then short (unfinite ⊳ outside ⊳ unfit) ((2, shortScratch neighbours k) ∷ []) _ (held-says (shortScratch neighbours k) (refusal.ShortScratch (neededScratch neighbours)))
     (then unfinite (outside ⊳ unfit) ((3, bad Finite) ∷ []) _ (found-says (firstBad (badNumber Finite) 0 numbers) refusal.NotFinite 3 (bad Finite) (λ place. refl) refl)
     (then outside unfit ((4, bad InRange) ∷ []) _ (found-says (firstBad (badNumber InRange) 0 numbers) refusal.OutOfRange 4 (bad InRange) (λ place. refl) refl)
-    (held-says (badFallback (request .fallback)) (refusal.BadFallback fallbackPlace)))))
+    (held-says (badFallback (request .fallback)) (refusal.BadFallback fallbackPlace))))))
 
 planes-say : (planes : List Plane) → Says (planesVerdict planes) ((6, some (marked badPlane 0 planes)) ∷ [])
 unfolding planesVerdict
 planes-say planes = found-says (firstBad badPlane 0 planes) refusal.PlaneNotFinite 6 _ (λ neighbour. refl) refl
 
-solution-says : (solution : Solution) → refusedWith (replyOf solution) ≡ firstHolding ((7, noVelocity solution) ∷ [])
-unfolding replyOf answered noVelocity badClamp
-solution-says solution = go (finiteVec (solution .value)) (solution .outcome)
+-- 18, and then 7
+abbrev lateVerdict : Bool → ℕ → Vec3 → Verdict
+lateVerdict clamp plane value = refusedIf clamp (refusal.BadClamp plane) ⊳ refusedIf (not (finiteVec value)) refusal.NoVelocity
+
+late-says : (clamp : Bool) (plane : ℕ) (value : Vec3) → Says (lateVerdict clamp plane value) ((18, clamp) ∷ (7, not (finiteVec value)) ∷ [])
+late-says clamp plane value =
+    let unfinite = refusedIf (not (finiteVec value)) refusal.NoVelocity in
+    then (refusedIf clamp (refusal.BadClamp plane)) unfinite ((18, clamp) ∷ []) _ (held-says clamp (refusal.BadClamp plane)) (held-says (not (finiteVec value)) refusal.NoVelocity)
+
+valued-says : (value : Vec3) (relaxed : Found) → refusedWith (answeredWith value relaxed) ≡ said (lateVerdict false 0 value)
+unfolding answeredWith
+valued-says value relaxed = go (finiteVec value)
   where
-    go : (b : Bool) (o : Outcome) → refusedWith (cond b (answered o (plusZeros (solution .value))) (Refused refusal.NoVelocity)) ≡ firstHolding ((7, not b || badClamp o) ∷ [])
-    go true (Feasible v) = held-says false refusal.NoVelocity
-    go true (Infeasible f) = held-says false refusal.NoVelocity
-    go true (BadClamp i) = held-says true refusal.NoVelocity
-    go false o = held-says true refusal.NoVelocity
+    go : (b : Bool) → refusedWith (cond b (Answered (record { velocity = plusZeros value; relaxed = relaxed })) (Refused refusal.NoVelocity)) ≡ said (refusedIf (not b) refusal.NoVelocity)
+    go true = refl
+    go false = refl
+
+solution-says : (outcome : Outcome) (value : Vec3) → refusedWith (outcomeReply outcome value) ≡ firstHolding ((18, badClamp outcome) ∷ (7, not (finiteVec value)) ∷ [])
+unfolding outcomeReply badClamp
+solution-says (Feasible best) value = valued-says value Nothing ∙ late-says false 0 value
+solution-says (Infeasible failure) value = valued-says value (At (failure .index)) ∙ late-says false 0 value
+solution-says (BadClamp plane) value = late-says true plane value
 
 -- the refusal is the one of the first condition that holds
 pub by-conditions : (request : Request) (neighbours : List Float) (k : ℕ) → refusedWith (velocityCall request neighbours k) ≡ firstHolding (velocityConditions request neighbours k)
-unfolding velocityCall plannedReply velocityConditions
+unfolding velocityCall plannedReply replyOf velocityConditions
 by-conditions request neighbours k =
     let planes = planesOfCall request neighbours in
     let solution = solve planes (request .«max_speed») (request .preferred) in
-    reply-says (checks request neighbours k) _ _ ((6, some (marked badPlane 0 planes)) ∷ (7, noVelocity solution) ∷ []) (checks-say request neighbours k)
-    (reply-says (planesVerdict planes) (replyOf solution) ((6, some (marked badPlane 0 planes)) ∷ []) _ (planes-say planes) (solution-says solution))
+    reply-says (checks request neighbours k) _ _ ((6, some (marked badPlane 0 planes)) ∷ (18, badClamp (solution .outcome)) ∷ (7, not (finiteVec (solution .value))) ∷ []) (checks-say request neighbours k)
+    (reply-says (planesVerdict planes) (replyOf solution) ((6, some (marked badPlane 0 planes)) ∷ []) _ (planes-say planes) (solution-says (solution .outcome) (solution .value)))
 
 -- ---- the theorems
 
@@ -123,7 +139,7 @@ unrefused (Refused r) = (λ e. absurd (not-answered r e), λ e. no-place (sym e)
 abbrev pub Exactly : ℕ → Type 0
 Exactly n = (request : Request) (neighbours : List Float) (k : ℕ) → (number (velocityCall request neighbours k) ≡ n) ↔ First n (velocityConditions request neighbours k)
 
-exactly : (n : ℕ) → Exactly (suc n)
+pub exactly : (n : ℕ) → Exactly (suc n)
 exactly n request neighbours k =
     let (to, from) = numbered (velocityCall request neighbours k) n in
     (λ e. sym (by-conditions request neighbours k) ∙ to e, λ h. from (by-conditions request neighbours k ∙ h))
@@ -148,6 +164,12 @@ refused-6 = exactly 5
 
 pub refused-7 : Exactly 7
 refused-7 = exactly 6
+
+pub refused-17 : Exactly 17
+refused-17 = exactly 16
+
+pub refused-18 : Exactly 18
+refused-18 = exactly 17
 
 none-holds : (cs : List (ℕ × Bool)) → (firstHolding cs ≡ Nothing) ↔ (some cs ≡ false)
 none-holds cs = go (firstHolding cs)

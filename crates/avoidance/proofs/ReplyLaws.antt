@@ -10,7 +10,7 @@ use borrow.Author.Tests.{eqb-true, ltb-false, le-ltb}
 use Rattle.vectors.proofs.Truth.{no-truth}
 use Rattle.refusals.specs.declared.Found.the-variants.{At}
 use Rattle.refusals.specs.declared.Refusal.{Refusal}
-use Rattle.refusals.specs.declared.Refusal.the-variants.{BadNeighbours, ShortScratch, NotFinite, OutOfRange, BadFallback, PlaneNotFinite}
+use Rattle.refusals.specs.declared.Refusal.the-variants.{RaggedNeighbours, TooManyNeighbours, ShortScratch, NotFinite, OutOfRange, BadFallback, PlaneNotFinite}
 use Rattle.refusals.specs.declared.Verdict.{Verdict}
 use Rattle.refusals.specs.declared.Verdict.the-variants as verdict
 use Rattle.refusals.specs.Refusal as refusals
@@ -20,8 +20,9 @@ use Rattle.avoidance.specs.declared.Request.{Request}
 use Rattle.avoidance.specs.declared.Asked.the-variants.{Finite, InRange}
 use Rattle.avoidance.specs.declared.Reply.{Reply}
 use Rattle.avoidance.specs.declared.Reply.the-variants.{Answered, Refused}
+use Rattle.avoidance.specs.Lent.{agentCount}
 use Rattle.avoidance.specs.Request.{fallbackPlace}
-use Rattle.avoidance.specs.Checks.{firstOf, badNeighbours, neededScratch, shortScratch, badFallback, checks}
+use Rattle.avoidance.specs.Checks.{firstOf, ragged, tooMany, neededScratch, shortScratch, badFallback, checks}
 use Rattle.avoidance.specs.Reply.{isAnswered, number, placeOf, velocityOf, renamedRefusal, renamed}
 use Rattle.avoidance.specs.Velocity.{plannedReply, velocityCall}
 use Rattle.avoidance.proofs.Refusals.{refusedWith}
@@ -87,12 +88,24 @@ otherChecks request neighbours =
 
 -- what passed checks say
 module _ (request : Request) (neighbours : List Float) (k : ℕ) (passed : checks request neighbours k ≡ verdict.Passed) where
-  whole-and-rest : (refusedIf (badNeighbours neighbours) BadNeighbours ≡ verdict.Passed) × (refusedIf (shortScratch neighbours k) (ShortScratch (neededScratch neighbours)) ⊳ otherChecks request neighbours ≡ verdict.Passed)
-  unfolding checks
-  whole-and-rest = both-passed (refusedIf (badNeighbours neighbours) BadNeighbours) (refusedIf (shortScratch neighbours k) (ShortScratch (neededScratch neighbours)) ⊳ otherChecks request neighbours) passed
+  abbrev whole : Verdict
+  whole = refusedIf (ragged neighbours) RaggedNeighbours
 
-  long-and-rest : (refusedIf (shortScratch neighbours k) (ShortScratch (neededScratch neighbours)) ≡ verdict.Passed) × (otherChecks request neighbours ≡ verdict.Passed)
-  long-and-rest = both-passed (refusedIf (shortScratch neighbours k) (ShortScratch (neededScratch neighbours))) (otherChecks request neighbours) (whole-and-rest .1)
+  abbrev few : Verdict
+  few = refusedIf (tooMany neighbours) (TooManyNeighbours (agentCount neighbours))
+
+  abbrev long : Verdict
+  long = refusedIf (shortScratch neighbours k) (ShortScratch (neededScratch neighbours))
+
+  whole-and-rest : (whole ≡ verdict.Passed) × ((few ⊳ long ⊳ otherChecks request neighbours) ≡ verdict.Passed)
+  unfolding checks
+  whole-and-rest = both-passed whole (few ⊳ long ⊳ otherChecks request neighbours) passed
+
+  few-and-rest : (few ≡ verdict.Passed) × ((long ⊳ otherChecks request neighbours) ≡ verdict.Passed)
+  few-and-rest = both-passed few (long ⊳ otherChecks request neighbours) (whole-and-rest .1)
+
+  long-and-rest : (long ≡ verdict.Passed) × (otherChecks request neighbours ≡ verdict.Passed)
+  long-and-rest = both-passed long (otherChecks request neighbours) (few-and-rest .1)
 
   -- the scratch is long enough
   pub passed-fits : neededScratch neighbours ≤ k
@@ -101,7 +114,8 @@ module _ (request : Request) (neighbours : List Float) (k : ℕ) (passed : check
   -- and any other that is passes too
   pub passed-again : (enough : ℕ) → neededScratch neighbours ≤ enough → checks request neighbours enough ≡ verdict.Passed
   unfolding checks
-  passed-again enough fits = rw (does-not-hold (badNeighbours neighbours) BadNeighbours (whole-and-rest .0), le-ltb enough (neededScratch neighbours) fits) (long-and-rest .1)
+  passed-again enough fits =
+      rw (whole-and-rest .0, few-and-rest .0, le-ltb enough (neededScratch neighbours) fits) (long-and-rest .1)
 
 -- an answer given with some scratch is given with any scratch that is enough
 pub any-scratch : (request : Request) (neighbours : List Float) (k enough : ℕ) → neededScratch neighbours ≤ enough → isAnswered (velocityCall request neighbours k) ≡ true → velocityCall request neighbours enough ≡ velocityCall request neighbours k

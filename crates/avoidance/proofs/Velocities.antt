@@ -10,7 +10,7 @@ use Rattle.vectors.proofs.Stored.{zero-is, plus-zeros-is, plus-zeros-finite}
 use Rattle.refusals.specs.declared.Found.{Found}
 use Rattle.refusals.specs.declared.Found.the-variants.{At, Nothing}
 use Rattle.refusals.specs.declared.Refusal.{Refusal}
-use Rattle.refusals.specs.declared.Refusal.the-variants.{NoVelocity}
+use Rattle.refusals.specs.declared.Refusal.the-variants as refusal
 use Rattle.refusals.specs.declared.Verdict.{Verdict}
 use Rattle.refusals.specs.declared.Verdict.the-variants as verdict
 use Rattle.refusals.specs.Verdict.{settledBy}
@@ -24,7 +24,7 @@ use Rattle.avoidance.specs.declared.Reply.{Reply}
 use Rattle.avoidance.specs.declared.Reply.the-variants.{Answered, Refused}
 use Rattle.avoidance.specs.Reply.{isAnswered, velocityOf}
 use Rattle.avoidance.specs.Checks.{checks}
-use Rattle.avoidance.specs.Velocity.{planesOfCall, answered, replyOf, planesVerdict, plannedReply, velocityCall}
+use Rattle.avoidance.specs.Velocity.{planesOfCall, answeredWith, outcomeReply, replyOf, planesVerdict, plannedReply, velocityCall}
 
 -- what holds of every refusal, and of an answer with the solver's value where that is finite, holds of the reply
 module _ (P : Reply → Type 0) (refused : (r : Refusal) → P (Refused r)) where
@@ -33,14 +33,17 @@ module _ (P : Reply → Type 0) (refused : (r : Refusal) → P (Refused r)) wher
   settled (verdict.Refused r) reply p = refused r
 
   replied : (solution : Solution) → (finiteVec (solution .value) ≡ true → (relaxed : Found) → P (Answered (record { velocity = plusZeros (solution .value); relaxed = relaxed }))) → P (replyOf solution)
-  unfolding replyOf answered
-  replied solution answer = go (finiteVec (solution .value)) refl (solution .outcome)
+  unfolding replyOf outcomeReply answeredWith
+  replied solution answer = go (solution .outcome)
     where
-      go : (b : Bool) → finiteVec (solution .value) ≡ b → (o : Outcome) → P (cond b (answered o (plusZeros (solution .value))) (Refused NoVelocity))
-      go true is (Feasible value) = answer is Nothing
-      go true is (Infeasible failure) = answer is (At (failure .index))
-      go true is (BadClamp index) = refused NoVelocity
-      go false is o = refused NoVelocity
+      with-relaxed : (b : Bool) → finiteVec (solution .value) ≡ b → (relaxed : Found) → P (cond b (Answered (record { velocity = plusZeros (solution .value); relaxed = relaxed })) (Refused refusal.NoVelocity))
+      with-relaxed true is relaxed = answer is relaxed
+      with-relaxed false is relaxed = refused refusal.NoVelocity
+
+      go : (o : Outcome) → P (outcomeReply o (solution .value))
+      go (Feasible best) = with-relaxed (finiteVec (solution .value)) refl Nothing
+      go (Infeasible failure) = with-relaxed (finiteVec (solution .value)) refl (At (failure .index))
+      go (BadClamp plane) = refused (refusal.BadClamp plane)
 
   called : (request : Request) (neighbours : List Float) (k : ℕ)
       → (let value = solve (planesOfCall request neighbours) (request .«max_speed») (request .preferred) .value in finiteVec value ≡ true → (relaxed : Found) → P (Answered (record { velocity = plusZeros value; relaxed = relaxed })))

@@ -1,3 +1,4 @@
 -- Laws of the velocity call, beside the proofs of its functions.
 pub mod Planes
 pub mod FitCalls
+pub mod Places

@@ -1,4 +1,4 @@
--- The velocity call's checks 1 to 5, of document 01's table of numbered answers.
+-- The velocity call's checks 1, 17, and 2 to 5, of the documents' table of numbered answers.
 use Prim.Native.Nat.{ℕ, _-_, _%_}
 use mathlib.Core.Bool.{Bool, false, not, _||_, cond}
 use mathlib.Core.List.{List, _++_}
@@ -9,7 +9,7 @@ use Rattle.vectors.specs.declared.Vec3.{Vec3}
 use Rattle.vectors.specs.Number.{_<ᶠ_, _>ᶠ_, zero, ofWord, finite}
 use Rattle.vectors.specs.Vec3.{dot}
 use Rattle.refusals.specs.declared.Found.{Found}
-use Rattle.refusals.specs.declared.Refusal.the-variants.{BadNeighbours, ShortScratch, NotFinite, OutOfRange, BadFallback}
+use Rattle.refusals.specs.declared.Refusal.the-variants.{RaggedNeighbours, TooManyNeighbours, ShortScratch, NotFinite, OutOfRange, BadFallback}
 use Rattle.refusals.specs.declared.Verdict.{Verdict}
 use Rattle.refusals.specs.Conditions.{firstBad}
 use Rattle.refusals.specs.Verdict.{_⊳_, refusedIf, refusedAt}
@@ -58,9 +58,13 @@ firstOf asked request neighbours = firstBad (badNumber asked) 0 (callNumbers req
 
 -- ---- the checks
 
--- a list not a multiple of 8, or over 63 neighbours
-unfoldable pub badNeighbours : List Float → Bool
-badNeighbours neighbours = not (eqb (length neighbours % perAgent) 0) || ltb mostNeighbours (agentCount neighbours)
+-- a list not a multiple of 8
+abbrev pub ragged : List Float → Bool
+ragged neighbours = not (eqb (length neighbours % perAgent) 0)
+
+-- over 63 neighbours
+abbrev pub tooMany : List Float → Bool
+tooMany neighbours = ltb mostNeighbours (agentCount neighbours)
 
 -- scratch for the planes of all neighbours
 abbrev pub neededScratch : List Float → ℕ
@@ -76,7 +80,8 @@ badFallback fallback = dot fallback fallback <ᶠ ofWord 0x3F7F_FF58 || dot fall
 -- each is finished over all its numbers before the next
 unfoldable pub checks : Request → List Float → ℕ → Verdict
 checks request neighbours scratchLength =
-    refusedIf (badNeighbours neighbours) BadNeighbours
+    refusedIf (ragged neighbours) RaggedNeighbours
+    ⊳ refusedIf (tooMany neighbours) (TooManyNeighbours (agentCount neighbours))
     ⊳ refusedIf (shortScratch neighbours scratchLength) (ShortScratch (neededScratch neighbours))
     ⊳ refusedAt (firstOf Finite request neighbours) NotFinite
     ⊳ refusedAt (firstOf InRange request neighbours) OutOfRange

@@ -1,4 +1,4 @@
--- The velocity call: `compute_avoiding_velocity_internal`, document 01's answers 0 to 7, and what it leaves in scratch.
+-- The velocity call: `compute_avoiding_velocity_internal`, the documents' answers 0 to 7, 17 and 18, and what it leaves in scratch.
 -- In two parts: planes from neighbours, and then the solver's `solve` of a list of planes.
 use Prim.Native.Nat.{ℕ, zero, suc, _*_}
 use mathlib.Core.Bool.{Bool, not, _&&_, cond}
@@ -8,8 +8,9 @@ use lib.Ieee.{Float}
 use Rattle.vectors.specs.declared.Vec3.{Vec3}
 use Rattle.vectors.specs.Number.{zero as zero32}
 use Rattle.vectors.specs.Vec3.{finiteVec, plusZeros}
+use Rattle.refusals.specs.declared.Found.{Found}
 use Rattle.refusals.specs.declared.Found.the-variants.{At, Nothing}
-use Rattle.refusals.specs.declared.Refusal.the-variants.{PlaneNotFinite, NoVelocity}
+use Rattle.refusals.specs.declared.Refusal.the-variants as refusal
 use Rattle.refusals.specs.declared.Verdict.{Verdict}
 use Rattle.refusals.specs.Conditions.{firstBad}
 use Rattle.refusals.specs.Verdict.{refusedAt, settledBy}
@@ -48,18 +49,23 @@ badPlane index plane = not (finitePlane plane)
 
 -- ---- the answer
 
--- a bad clamp, or a velocity that is not finite, is no velocity
-unfoldable pub answered : Outcome → Vec3 → Reply
-answered (Feasible value) velocity = Answered (record { velocity = velocity; relaxed = Nothing })
-answered (Infeasible failure) velocity = Answered (record { velocity = velocity; relaxed = At (failure .index) })
-answered (BadClamp index) velocity = Refused NoVelocity
+-- a value that is not finite is no velocity
+unfoldable pub answeredWith : Vec3 → Found → Reply
+answeredWith value relaxed = cond (finiteVec value) (Answered (record { velocity = plusZeros value; relaxed = relaxed })) (Refused refusal.NoVelocity)
+
+-- A bad clamp is refused with the plane that was being solved on. It is never a turned one, whose place would be that of the plane it
+-- was turned from: the optimum is a direction there, and then there is no bad clamp (`three-d-never-bad`, the solver's proofs/NoBadClamp.antt).
+unfoldable pub outcomeReply : Outcome → Vec3 → Reply
+outcomeReply (Feasible best) value = answeredWith value Nothing
+outcomeReply (Infeasible failure) value = answeredWith value (At (failure .index))
+outcomeReply (BadClamp plane) value = Refused (refusal.BadClamp plane)
 
 unfoldable pub replyOf : Solution → Reply
-replyOf solution = cond (finiteVec (solution .value)) (answered (solution .outcome) (plusZeros (solution .value))) (Refused NoVelocity)
+replyOf solution = outcomeReply (solution .outcome) (solution .value)
 
 -- the first plane that is not finite refuses the call
 unfoldable pub planesVerdict : List Plane → Verdict
-planesVerdict planes = refusedAt (firstBad badPlane 0 planes) PlaneNotFinite
+planesVerdict planes = refusedAt (firstBad badPlane 0 planes) refusal.PlaneNotFinite
 
 -- the answer where the checks pass
 unfoldable pub plannedReply : Request → List Float → Reply
@@ -75,10 +81,10 @@ velocityCall request neighbours scratchLength = settledBy (checks request neighb
 -- of n planes, where the checks pass: an answer leaves the planes in the first 6n numbers and +0 in the next, a refusal +0 in all 12n
 unfoldable pub plannedScratch : Reply → ℕ → List Plane → List Float → List Float
 plannedScratch (Answered course) n planes scratch = numbersOfPlanes planes ++ replicate (perPlane * n) zero32 ++ drop (scratchFor n) scratch
-plannedScratch (Refused refusal) n planes scratch = replicate (scratchFor n) zero32 ++ drop (scratchFor n) scratch
+plannedScratch (Refused r) n planes scratch = replicate (scratchFor n) zero32 ++ drop (scratchFor n) scratch
 
 -- a refusal by the checks leaves it untouched
 unfoldable pub scratchAfter : Request → List Float → List Float → List Float
 scratchAfter request neighbours scratch =
-    settledBy (checks request neighbours (length scratch)) (λ refusal. scratch)
+    settledBy (checks request neighbours (length scratch)) (λ r. scratch)
     (plannedScratch (plannedReply request neighbours) (agentCount neighbours) (planesOfCall request neighbours) scratch)

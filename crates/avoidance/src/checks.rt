@@ -1,4 +1,4 @@
-// Document 01, module 7: the velocity call's checks 1 to 5. The definitions are in `specs/Checks.antt`.
+// Document 01, module 7: the velocity call's checks 1, 17, and 2 to 5. The definitions are in `specs/Checks.antt`.
 ghost use mathlib.Core.Path.{_≡_};
 ghost use mathlib.Core.Bool.{true, false};
 ghost use Prim.Native.Nat.{_≤_};
@@ -175,11 +175,11 @@ pub fn checks(request: Request, neighbours: &[f32], scratch_length: usize) -> Ve
     ensures { λ r. ⌜ r ≡ checks request (now (neighbours .entry)) «scratch_length» ⌝ }
 {
     if neighbours.len() % AGENT_NUMBERS != 0 {
-        return Verdict::Refused(Refusal::BadNeighbours);
+        return Verdict::Refused(Refusal::RaggedNeighbours);
     }
     let count = neighbours.len() / AGENT_NUMBERS;
     if MOST_NEIGHBOURS < count {
-        return Verdict::Refused(Refusal::BadNeighbours);
+        return Verdict::Refused(Refusal::TooManyNeighbours { count });
     }
     let needed = SCRATCH_NUMBERS * count;
     if scratch_length < needed {

@@ -27,7 +27,7 @@ fn renamed_refusal(refusal: Refusal, names: &[usize]) -> Refusal
 }
 
 impl Reply {
-    // Its number in document 01's table.
+    // Its number in the documents' table.
     pub fn number(self) -> u32
         ensures { λ r. ⌜ r ≡ number self ⌝ }
     {

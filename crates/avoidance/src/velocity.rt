@@ -5,7 +5,7 @@ ghost use Prim.Native.Nat.{_*_, _≤_, _<_};
 ghost use lib.ListN.{length, drop};
 ghost use Rattle.solver.specs.Lent.{scratchFor};
 ghost use Rattle.avoidance.specs.Lent.{perAgent, agentCount};
-ghost use Rattle.avoidance.specs.Velocity.{planeOf, finitePlane, planesFrom, planesOfCall, replyOf, plannedReply, plannedScratch, velocityCall, scratchAfter};
+ghost use Rattle.avoidance.specs.Velocity.{planeOf, finitePlane, planesFrom, planesOfCall, answeredWith, replyOf, plannedReply, plannedScratch, velocityCall, scratchAfter};
 ghost use Rattle.avoidance.specs.parts.Velocity.{Written};
 use super::AGENT_NUMBERS;
 use super::Course;
@@ -24,6 +24,7 @@ use solver::Solution;
 use solver::lent::clear;
 use solver::lent::write_plane;
 use solver::solve::solve;
+use vectors::Vec3;
 
 fn is_finite_plane(plane: Plane) -> bool
     ensures { λ r. ⌜ r ≡ finitePlane plane ⌝ }
@@ -68,25 +69,26 @@ fn write_planes(scratch: &mut [f32], request: Request, neighbours: &[f32]) -> Fo
     Found::Nothing
 }
 
-fn reply_of(solution: Solution) -> Reply
-    ensures { λ r. ⌜ r ≡ replyOf solution ⌝ }
+// An answer with a value as the velocity, where it is one.
+fn answered_with(value: Vec3, relaxed: Found) -> Reply
+    ensures { λ r. ⌜ r ≡ answeredWith value relaxed ⌝ }
 {
-    let value = solution.value;
     if !value.is_finite() {
         return Reply::Refused(Refusal::NoVelocity);
     }
     let velocity = value.plus_zeros();
+    Reply::Answered(Course { velocity, relaxed })
+}
+
+fn reply_of(solution: Solution) -> Reply
+    ensures { λ r. ⌜ r ≡ replyOf solution ⌝ }
+{
+    let value = solution.value;
     let outcome = solution.outcome;
     match outcome {
-        Outcome::Feasible(_) => Reply::Answered(Course {
-            velocity,
-            relaxed: Found::Nothing,
-        }),
-        Outcome::Infeasible(failure) => Reply::Answered(Course {
-            velocity,
-            relaxed: Found::At(failure.index),
-        }),
-        Outcome::BadClamp(_) => Reply::Refused(Refusal::NoVelocity),
+        Outcome::Feasible(_) => answered_with(value, Found::Nothing),
+        Outcome::Infeasible(failure) => answered_with(value, Found::At(failure.index)),
+        Outcome::BadClamp(plane) => Reply::Refused(Refusal::BadClamp { plane }),
     }
 }
 

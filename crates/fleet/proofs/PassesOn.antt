@@ -1,5 +1,5 @@
 -- What a plan of a sound fleet answers.
---     plan-passes-on: 0, 2, 3 for the preferred velocity, 6, 7, 8 or 11, and nothing else
+--     plan-passes-on: 0, 2, 3 for the preferred velocity, 6, 18, 7, 8 or 11, and nothing else
 use mathlib.Core.Path.{_≡_, refl, _∙_}
 use mathlib.Core.Bool.{Bool, true, false, not, _&&_, cond}
 use mathlib.Core.List.{List, [], _∷_}
@@ -94,6 +94,7 @@ passed-on names reply (FitReply.farPreferred e low high) =
     let place = renamed-place names reply other in
     PassesOn.farGoal (renamed-number names reply ∙ e) (omega (arith, place)) (omega (arith, place))
 passed-on names reply (FitReply.planeNotFinite e) = PassesOn.planeNotFinite (renamed-number names reply ∙ e)
+passed-on names reply (FitReply.badClamp e) = PassesOn.badClamp (renamed-number names reply ∙ e)
 passed-on names reply (FitReply.noVelocity e) = PassesOn.noVelocity (renamed-number names reply ∙ e)
 
 module _ (fleet : Fleet) (sound : Sound fleet) (index k : ℕ) where

@@ -1,5 +1,6 @@
 -- Each refusal of a table call is given exactly when document 01 says, and leaves the table as it was.
 --     refused-8 … refused-15: answer N if and only if N's condition is the first that holds; `exactly` says it of every number
+--     same-inputs-refused: the plans refused with 1 or 17 are those that document 01's 1 named, and those refused with 18 or 7 those that its 7 named
 --     refused-zeros: a refused velocity is three zeros
 --     refused-unchanged: a call that is refused hands back the very fleet that it was given, whichever call it is
 use mathlib.Core.Path.{_≡_, refl, sym, ap, _∙_}
@@ -24,14 +25,15 @@ use Rattle.refusals.specs.declared.Verdict.the-variants.{Passed, Refused}
 use Rattle.refusals.specs.Refusal as refusals
 use Rattle.refusals.specs.Conditions.{firstHolding, First, isFound, some, marked, firstBad}
 use Rattle.refusals.specs.Verdict.{_⊳_, refusedAt}
-use Rattle.refusals.proofs.Conditions.{no-place, indexOf, orElse, holding-append}
+use Rattle.refusals.proofs.Conditions.{no-place, indexOf, orElse, holding-append, foundAs}
 use Rattle.refusals.proofs.Verdicts.{said, Says, then, held-says, tested-says, found-says}
 use Rattle.avoidance.specs.declared.Reply.{Reply}
 use Rattle.avoidance.specs.Reply as reply
 use Rattle.avoidance.specs.Velocity.{velocityCall}
-use Rattle.avoidance.specs.Conditions.{velocityConditions}
+use Rattle.avoidance.specs.Conditions.{velocityConditions, documentOneConditions, SameInputs}
 use Rattle.avoidance.proofs.Refusals.{refusedWith, by-conditions}
 use Rattle.avoidance.proofs.Refusals as of-reply
+use Rattle.avoidance.proofs.SameInputs.{documentOne, told-apart, document-one-holding}
 use Rattle.avoidance.proofs.ReplyLaws.{number-refused, renamed-refused}
 use Rattle.records.specs.declared.Record.{Record}
 use Rattle.records.specs.Record.{mostAgents}
@@ -140,7 +142,7 @@ answered-says v fleet index r cs ds e f = first v ∙ ap (λ (found : Found). or
     first Passed = refl
     first (Refused r′) = refl
 
-plan-says : (tick : Tick) (fleet : Fleet) (index k : ℕ) → refusalIn (planIn tick fleet index k .answer) ≡ firstHolding (planConditions tick fleet index k)
+plan-says : (tick : Tick) (fleet : Fleet) (index k : ℕ) → refusalIn (planIn tick fleet index k .answer) ≡ firstHolding (planConditions velocityConditions tick fleet index k)
 unfolding planIn planOpen planConditions replyFor
 plan-says Shut fleet index k = settled-says (Refused refusal.NoTick) fleet fleet ((11, true) ∷ []) (held-says true refusal.NoTick)
 plan-says (Open timeStep rule) fleet index k =
@@ -224,6 +226,34 @@ refused-14 = exactly 13
 
 pub refused-15 : Exactly 15
 refused-15 = exactly 14
+
+-- ---- 17 and 18 refuse the plans that document 01's 1 and 7 refused
+
+held-before : (n : ℕ) (b : Bool) (cs : List (ℕ × Bool)) → firstHolding ((n, b) ∷ cs) ≡ orElse (firstHolding ((n, b) ∷ [])) (firstHolding cs)
+held-before n b cs = holding-append ((n, b) ∷ []) cs
+
+plan-document-one : (tick : Tick) (fleet : Fleet) (index k : ℕ) → firstHolding (planConditions documentOneConditions tick fleet index k) ≡ foundAs documentOne (firstHolding (planConditions velocityConditions tick fleet index k))
+unfolding planConditions
+plan-document-one Shut fleet index k = sym (held-says true refusal.NoTick) ∙ ap (foundAs documentOne) (held-says true refusal.NoTick)
+plan-document-one (Open timeStep rule) fleet index k =
+    let asked = requestFor (ownRecord (agents fleet) index) timeStep in
+    let neighbours = neighboursOf rule (agents fleet) index in
+    held-before 8 (noAgent fleet index) _
+    ∙ go (firstHolding ((8, noAgent fleet index) ∷ [])) _ _ (document-one-holding asked neighbours k) (kept (noAgent fleet index))
+    ∙ ap (foundAs documentOne) (sym (held-before 8 (noAgent fleet index) _))
+  where
+    go : (found after after′ : Found) → after ≡ foundAs documentOne after′ → foundAs documentOne found ≡ found → orElse found after ≡ foundAs documentOne (orElse found after′)
+    go (At n) after after′ e kept = sym kept
+    go Nothing after after′ e kept = e
+
+    kept : (b : Bool) → foundAs documentOne (firstHolding ((8, b) ∷ [])) ≡ firstHolding ((8, b) ∷ [])
+    kept true = ap (foundAs documentOne) (sym (held-says true (refusal.NoAgent index))) ∙ held-says true (refusal.NoAgent index)
+    kept false = ap (foundAs documentOne) (sym (held-says false (refusal.NoAgent index))) ∙ held-says false (refusal.NoAgent index)
+
+pub same-inputs-refused : (fleet : Fleet) (index : ℕ) (scratch : List Float) → SameInputs (number (step fleet (Call.plan index scratch) .answer)) (planConditions documentOneConditions (fleet .tick) fleet index (length scratch))
+unfolding callConditions
+same-inputs-refused fleet index scratch =
+    told-apart _ (firstHolding (callConditions fleet (Call.plan index scratch))) _ (λ n. exactly n fleet (Call.plan index scratch)) (plan-document-one (fleet .tick) fleet index (length scratch))
 
 -- ---- a refused velocity is three zeros
 

@@ -10,6 +10,7 @@ use Rattle.vectors.specs.declared.Vec3.{Vec3}
 use Rattle.vectors.specs.Number.{_>ᶠ_, zero, finite}
 use Rattle.vectors.specs.Vec3.{finiteVec}
 use Rattle.refusals.specs.Conditions.{some, marked}
+use Rattle.avoidance.specs.declared.Request.{Request}
 use Rattle.avoidance.specs.Conditions.{velocityConditions}
 use Rattle.records.specs.Record.{mostAgents}
 use Rattle.records.specs.Conditions.{recordConditions, fileConditions}
@@ -59,10 +60,11 @@ isOpen (Open timeStep rule) = true
 unfoldable pub noAgent : Fleet → ℕ → Bool
 noAgent fleet index = leb (length (agents fleet)) index
 
-unfoldable pub planConditions : Tick → Fleet → ℕ → ℕ → List (ℕ × Bool)
-planConditions Shut fleet index scratchLength = (11, true) ∷ []
-planConditions (Open timeStep rule) fleet index scratchLength =
-    (8, noAgent fleet index) ∷ velocityConditions (requestFor (ownRecord (agents fleet) index) timeStep) (neighboursOf rule (agents fleet) index) scratchLength
+-- those of a velocity call's on the standing records come last
+unfoldable pub planConditions : (Request → List Float → ℕ → List (ℕ × Bool)) → Tick → Fleet → ℕ → ℕ → List (ℕ × Bool)
+planConditions ofCall Shut fleet index scratchLength = (11, true) ∷ []
+planConditions ofCall (Open timeStep rule) fleet index scratchLength =
+    (8, noAgent fleet index) ∷ ofCall (requestFor (ownRecord (agents fleet) index) timeStep) (neighboursOf rule (agents fleet) index) scratchLength
 
 unfoldable pub closeConditions : Tick → Fleet → List (ℕ × Bool)
 closeConditions Shut fleet = (11, true) ∷ []
@@ -80,6 +82,6 @@ callConditions fleet (remove index) = (10, isOpen (fleet .tick)) ∷ (8, noAgent
 callConditions fleet (read index) = (8, noAgent fleet index) ∷ []
 callConditions fleet (goal index v) = (8, noAgent fleet index) ∷ (3, not (finiteVec v)) ∷ []
 callConditions fleet (start timeStep rule) = (10, isOpen (fleet .tick)) ∷ (3, not (finite timeStep)) ∷ (4, not (timeStep >ᶠ zero)) ∷ []
-callConditions fleet (plan index scratch) = planConditions (fleet .tick) fleet index (length scratch)
+callConditions fleet (plan index scratch) = planConditions velocityConditions (fleet .tick) fleet index (length scratch)
 callConditions fleet close = closeConditions (fleet .tick) fleet
 callConditions fleet drop = (11, not (isOpen (fleet .tick))) ∷ []

@@ -80,6 +80,7 @@ pub data PassesOn (answer : Answer) : Type 0 where
   shortScratch : number answer ≡ 2 → PassesOn answer
   farGoal : number answer ≡ 3 → preferredPlace ≤ placeOf answer → placeOf answer < maxSpeedPlace → PassesOn answer
   planeNotFinite : number answer ≡ 6 → PassesOn answer
+  badClamp : number answer ≡ 18 → PassesOn answer
   noVelocity : number answer ≡ 7 → PassesOn answer
   noAgent : number answer ≡ 8 → PassesOn answer
   noTick : number answer ≡ 11 → PassesOn answer

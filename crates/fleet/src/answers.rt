@@ -6,7 +6,7 @@ use super::Answer;
 use vectors::Vec3;
 
 impl Answer {
-    // Its number in document 01's table.
+    // Its number in the documents' table.
     pub fn number(self) -> u32
         ensures { λ r. ⌜ r ≡ number self ⌝ }
     {

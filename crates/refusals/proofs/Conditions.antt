@@ -1,6 +1,6 @@
 -- The first of a list that is bad: what a loop over the list needs to find it, and what having found it, or none, says of the list.
 use mathlib.Core.Path.{_≡_, refl, sym, ap, _∙_}
-use mathlib.Core.Bool.{Bool, true, false, cond}
+use mathlib.Core.Bool.{Bool, true, false, _||_, cond}
 use mathlib.Core.List.{List, [], _∷_, _++_}
 use mathlib.Core.Logic.{_↔_}
 use Prim.Native.Nat.{ℕ, zero, suc, _+_, _≤_, _<_}
@@ -37,6 +37,33 @@ unfolding firstHolding
 holding-append [] ds = refl
 holding-append ((n, true) ∷ cs) ds = refl
 holding-append ((n, false) ∷ cs) ds = holding-append cs ds
+
+-- ---- conditions by other numbers
+
+abbrev pub foundAs : (ℕ → ℕ) → Found → Found
+foundAs f (At n) = At (f n)
+foundAs f Nothing = Nothing
+
+abbrev pub renumbered : (ℕ → ℕ) → List (ℕ × Bool) → List (ℕ × Bool)
+renumbered f [] = []
+renumbered f ((n, b) ∷ cs) = (f n, b) ∷ renumbered f cs
+
+pub renumbered-holding : (f : ℕ → ℕ) (cs : List (ℕ × Bool)) → firstHolding (renumbered f cs) ≡ foundAs f (firstHolding cs)
+unfolding firstHolding
+renumbered-holding f [] = refl
+renumbered-holding f ((n, true) ∷ cs) = refl
+renumbered-holding f ((n, false) ∷ cs) = renumbered-holding f cs
+
+-- two conditions of one number, one after the other, are one
+pub joined-holding : (cs : List (ℕ × Bool)) (n : ℕ) (a b : Bool) (ds : List (ℕ × Bool)) → firstHolding (cs ++ (n, a) ∷ (n, b) ∷ ds) ≡ firstHolding (cs ++ (n, a || b) ∷ ds)
+unfolding firstHolding
+joined-holding [] n true b ds = refl
+joined-holding [] n false true ds = refl
+joined-holding [] n false false ds = refl
+joined-holding ((m, true) ∷ cs) n a b ds = refl
+joined-holding ((m, false) ∷ cs) n a b ds = joined-holding cs n a b ds
+
+-- ---- the elements of a list
 
 module _ {A : Type 0} (bad : ℕ → A → Bool) where
   pub marked-append : (i : ℕ) (xs ys : List A) → marked bad i (xs ++ ys) ≡ marked bad i xs ++ marked bad (i + length xs) ys

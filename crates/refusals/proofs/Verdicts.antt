@@ -19,7 +19,7 @@ use Rattle.refusals.proofs.Conditions.{orElse, holding-append}
 
 -- no refusal has the number of an answer
 pub not-answered : (r : Refusal) → number r ≡ 0 → ⊥
-not-answered refusal.BadNeighbours e = omega arith
+not-answered refusal.RaggedNeighbours e = omega arith
 not-answered (refusal.ShortScratch needed) e = omega arith
 not-answered (refusal.NotFinite place) e = omega arith
 not-answered (refusal.OutOfRange place) e = omega arith
@@ -34,6 +34,8 @@ not-answered (refusal.Unplanned agent) e = omega arith
 not-answered (refusal.PositionNotFinite agent) e = omega arith
 not-answered (refusal.BadFile bytes) e = omega arith
 not-answered (refusal.BadMargin place) e = omega arith
+not-answered (refusal.TooManyNeighbours count) e = omega arith
+not-answered (refusal.BadClamp plane) e = omega arith
 
 pub not-passed : {P : Type 0} {r : Refusal} → Refused r ≡ Passed → P
 not-passed e = let z : _≡_ {A = ℕ} 0 1 = cc in absurd (omega arith)
@@ -99,3 +101,23 @@ found-says (At place) refusal n true is e = ap At (is place)
 found-says (At place) refusal n false is e = let z : _≡_ {A = ℕ} 0 1 = cc in absurd (omega arith)
 found-says Nothing refusal n true is e = let z : _≡_ {A = ℕ} 0 1 = cc in absurd (omega arith)
 found-says Nothing refusal n false is e = refl
+
+-- ---- which refusals checks give
+
+-- what holds of each refusal that they can give holds of the one they give
+module _ (Q : Refusal → Type 0) where
+  abbrev pub Gives : Verdict → Type 0
+  Gives Passed = Unit {0}
+  Gives (Refused r) = Q r
+
+  pub gives-then : (v w : Verdict) → Gives v → Gives w → Gives (v ⊳ w)
+  gives-then Passed w first next = next
+  gives-then (Refused r) w first next = first
+
+  pub gives-held : (b : Bool) (r : Refusal) → Q r → Gives (refusedIf b r)
+  gives-held true r q = q
+  gives-held false r q = tt
+
+  pub gives-found : (found : Found) (refusal : ℕ → Refusal) → ((place : ℕ) → found ≡ At place → Q (refusal place)) → Gives (refusedAt found refusal)
+  gives-found (At place) refusal q = q place refl
+  gives-found Nothing refusal q = tt

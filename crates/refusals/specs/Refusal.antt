@@ -1,10 +1,10 @@
--- Document 01's table of numbered answers: each refusal's number and place.
+-- The documents' table of numbered answers: each refusal's number and place. Document 01 has 1 to 15, document 02 17 and 18.
 use Prim.Native.Nat.{ℕ}
 use Rattle.refusals.specs.declared.Refusal.{Refusal}
-use Rattle.refusals.specs.declared.Refusal.the-variants.{BadNeighbours, ShortScratch, NotFinite, OutOfRange, BadFallback, PlaneNotFinite, NoVelocity, NoAgent, Full, TickOpen, NoTick, Unplanned, PositionNotFinite, BadFile, BadMargin}
+use Rattle.refusals.specs.declared.Refusal.the-variants.{RaggedNeighbours, ShortScratch, NotFinite, OutOfRange, BadFallback, PlaneNotFinite, NoVelocity, NoAgent, Full, TickOpen, NoTick, Unplanned, PositionNotFinite, BadFile, BadMargin, TooManyNeighbours, BadClamp}
 
 abbrev pub number : Refusal → ℕ
-number BadNeighbours = 1
+number RaggedNeighbours = 1
 number (ShortScratch needed) = 2
 number (NotFinite place) = 3
 number (OutOfRange place) = 4
@@ -19,9 +19,11 @@ number (Unplanned agent) = 12
 number (PositionNotFinite agent) = 13
 number (BadFile bytes) = 14
 number (BadMargin place) = 15
+number (TooManyNeighbours count) = 17
+number (BadClamp plane) = 18
 
 abbrev pub placeOf : Refusal → ℕ
-placeOf BadNeighbours = 0
+placeOf RaggedNeighbours = 0
 placeOf (ShortScratch needed) = needed
 placeOf (NotFinite place) = place
 placeOf (OutOfRange place) = place
@@ -36,3 +38,5 @@ placeOf (Unplanned agent) = agent
 placeOf (PositionNotFinite agent) = agent
 placeOf (BadFile bytes) = bytes
 placeOf (BadMargin place) = place
+placeOf (TooManyNeighbours count) = count
+placeOf (BadClamp plane) = plane

@@ -1,11 +1,11 @@
-// Why a call is refused, for every crate above: document 01's table of numbered answers, one case to each number, with
-// one row of number and place. The definitions are in `specs/`.
+// Why a call is refused, for every crate above: the documents' table of numbered answers, one case to each number, with
+// one row of number and place. Document 01 has 1 to 15, document 02 17 and 18. The definitions are in `specs/`.
 ghost use mathlib.Core.Path.{_≡_};
 ghost use Rattle.refusals.specs.Refusal.{number, placeOf};
 
 // A refusal holds what its place is made of.
 pub enum Refusal {
-    BadNeighbours,
+    RaggedNeighbours,
     ShortScratch { needed: usize },
     NotFinite { place: usize },
     OutOfRange { place: usize },
@@ -20,6 +20,8 @@ pub enum Refusal {
     PositionNotFinite { agent: usize },
     BadFile { bytes: usize },
     BadMargin { place: usize },
+    TooManyNeighbours { count: usize },
+    BadClamp { plane: usize },
 }
 
 // What a call's checks say.
@@ -35,12 +37,12 @@ pub enum Found {
 }
 
 impl Refusal {
-    // Its number in document 01's table.
+    // Its number in the documents' table.
     pub fn number(self) -> u32
         ensures { λ r. ⌜ r ≡ number self ⌝ }
     {
         match self {
-            Refusal::BadNeighbours => 1,
+            Refusal::RaggedNeighbours => 1,
             Refusal::ShortScratch { needed: _ } => 2,
             Refusal::NotFinite { place: _ } => 3,
             Refusal::OutOfRange { place: _ } => 4,
@@ -55,6 +57,8 @@ impl Refusal {
             Refusal::PositionNotFinite { agent: _ } => 13,
             Refusal::BadFile { bytes: _ } => 14,
             Refusal::BadMargin { place: _ } => 15,
+            Refusal::TooManyNeighbours { count: _ } => 17,
+            Refusal::BadClamp { plane: _ } => 18,
         }
     }
 
@@ -63,7 +67,7 @@ impl Refusal {
         ensures { λ r. ⌜ r ≡ placeOf self ⌝ }
     {
         match self {
-            Refusal::BadNeighbours => 0,
+            Refusal::RaggedNeighbours => 0,
             Refusal::ShortScratch { needed } => needed,
             Refusal::NotFinite { place } => place,
             Refusal::OutOfRange { place } => place,
@@ -78,6 +82,8 @@ impl Refusal {
             Refusal::PositionNotFinite { agent } => agent,
             Refusal::BadFile { bytes } => bytes,
             Refusal::BadMargin { place } => place,
+            Refusal::TooManyNeighbours { count } => count,
+            Refusal::BadClamp { plane } => plane,
         }
     }
 }

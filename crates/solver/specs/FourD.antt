@@ -43,7 +43,8 @@ unfoldable pub turnedAll : Plane → List Plane → List Plane
 turnedAll constraint [] = []
 turnedAll constraint (previous ∷ more) = kept (turnBy constraint previous) (turnedAll constraint more)
 
--- an infeasible inner program keeps value and penetration (and so would a bad clamp, of which there is none with a direction as the optimum)
+-- an infeasible inner program keeps value and penetration; and so would a bad clamp, of which there is none with a direction as the optimum
+-- (`three-d-never-bad`, proofs/NoBadClamp.antt)
 unfoldable pub relaxedTo : Plane → Relaxed → Outcome → Relaxed
 relaxedTo constraint state (Feasible value) = record { value = value; penetration = neg (signedDistance constraint value) }
 relaxedTo constraint state (Infeasible failure) = state

@@ -11,10 +11,10 @@ use Rattle.velocity_vectors.specs.Scratch.{wantedWord, AsWanted}
 
 -- it has the request's numbers, and no more numbers and scratch than there is room for
 pub record Sized (c : Case) : Type 0 where
-  pub space : 529 ≡ length (c .numbers)
-  pub planes : 529 ≡ length (c .planes)
+  pub space : 537 ≡ length (c .numbers)
+  pub planes : 537 ≡ length (c .planes)
   pub whole : 17 ≤ c .length
-  pub short : c .length ≤ 529
+  pub short : c .length ≤ 537
   pub room : c .scratch ≤ 800
 
 -- so does the one that every case starts from

@@ -50,6 +50,7 @@ fn answered(plane: usize, words: [u32; 8]) -> Answer {
 fn refused(number: usize, place: usize) -> Wanted {
     match number {
         1..=7 => Wanted::Is(refusal(number, place)),
+        17..=18 => Wanted::Is(refusal(number, place)),
         _ => Wanted::Malformed,
     }
 }

@@ -8,14 +8,14 @@ use super::keys::Key;
 use lines::Fields;
 use vectors::number::from_word;
 
-// There is room for the request's 17 numbers and 64 neighbours, one more than a call takes, and as much for
+// There is room for the request's 17 numbers and 65 neighbours, two more than a call takes, and as much for
 // planes. What each field is for is said where a line sets it.
 pub struct Case {
-    pub numbers: [f32; 529],
+    pub numbers: [f32; 537],
     pub length: usize,
     pub scratch: usize,
     pub fill: u32,
-    pub planes: [f32; 529],
+    pub planes: [f32; 537],
 }
 
 // The case that a line leaves, and whether the line asked for what a case can't have.
@@ -29,11 +29,11 @@ pub(crate) fn empty() -> Case
     ensures { λ r. ⌜ Sized r ⌝ }
 {
     Case {
-        numbers: [0.0; 529],
+        numbers: [0.0; 537],
         length: 17,
         scratch: 0,
         fill: 0,
-        planes: [0.0; 529],
+        planes: [0.0; 537],
     }
 }
 
@@ -58,9 +58,9 @@ fn unchanged(case: Case) -> Next
 }
 
 // The numbers with those from `at` on given by words.
-fn put(numbers: [f32; 529], at: usize, words: [u32; 8], count: usize) -> [f32; 529]
-    requires { ⌜ (529 ≡ length numbers) × (at + count ≤ 529) × (count ≤ 8) ⌝ }
-    ensures { λ r. ⌜ 529 ≡ length r ⌝ }
+fn put(numbers: [f32; 537], at: usize, words: [u32; 8], count: usize) -> [f32; 537]
+    requires { ⌜ (537 ≡ length numbers) × (at + count ≤ 537) × (count ≤ 8) ⌝ }
+    ensures { λ r. ⌜ 537 ≡ length r ⌝ }
 {
     let mut numbers = numbers;
     let mut i = 0;
@@ -72,7 +72,7 @@ fn put(numbers: [f32; 529], at: usize, words: [u32; 8], count: usize) -> [f32; 5
 }
 
 fn lengthened(case: Case, length: usize) -> Case
-    requires { ⌜ Sized case × (length ≤ 529) ⌝ }
+    requires { ⌜ Sized case × (length ≤ 537) ⌝ }
     ensures { λ r. ⌜ Sized r ⌝ }
 {
     let mut case = case;
@@ -98,7 +98,7 @@ fn with_numbers(case: Case, fields: Fields) -> Next
         return unchanged(case);
     }
     let end = at + count;
-    if 529 < end {
+    if 537 < end {
         return unchanged(case);
     }
     let before = case.numbers;

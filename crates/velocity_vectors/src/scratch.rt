@@ -3,7 +3,7 @@
 ghost use mathlib.Core.Path.{_≡_};
 ghost use Prim.Native.Nat.{_+_, _%_, _^_, _≤_, _<_};
 ghost use lib.ListN.{length};
-ghost use Rattle.velocity_vectors.specs.Scratch.{wordBefore, wantedWord, AsWanted};
+ghost use Rattle.velocity_vectors.specs.Scratch.{wordBefore, clears, wantedWord, AsWanted};
 use vectors::number::from_word;
 use vectors::number::to_word;
 
@@ -33,15 +33,28 @@ fn word_before(fill: u32, index: usize) -> u32
     to_word(from_word(filled(fill, index)))
 }
 
+// Whether a refusal's number is one of those that leave +0s.
+fn clears(number: usize) -> bool
+    ensures { λ r. ⌜ r ≡ clears number ⌝ }
+{
+    if number == 6 {
+        true
+    } else if number == 7 {
+        true
+    } else {
+        number == 18
+    }
+}
+
 // The word that is to stand at `index` after the answer `number` on `neighbours` neighbours.
 fn wanted_word(
     number: usize,
     neighbours: usize,
-    planes: &[f32; 529],
+    planes: &[f32; 537],
     fill: u32,
     index: usize,
 ) -> u32
-    requires { ⌜ (neighbours ≤ 64) × (index < 800) ⌝ }
+    requires { ⌜ (neighbours ≤ 65) × (index < 800) ⌝ }
     ensures { λ r. ⌜ r ≡ wantedWord number neighbours (now (planes .entry)) fill index ⌝ }
 {
     let before = word_before(fill, index);
@@ -54,7 +67,7 @@ fn wanted_word(
         }
         return to_word(planes[index]);
     }
-    if 6 <= number {
+    if clears(number) {
         return 0;
     }
     before
@@ -65,10 +78,10 @@ pub(crate) fn first_different(
     scratch: &[f32],
     number: usize,
     neighbours: usize,
-    planes: &[f32; 529],
+    planes: &[f32; 537],
     fill: u32,
 ) -> usize
-    requires { ⌜ (length (now scratch) ≤ 800) × (neighbours ≤ 64) ⌝ }
+    requires { ⌜ (length (now scratch) ≤ 800) × (neighbours ≤ 65) ⌝ }
     ensures within { λ r. ⌜ r ≤ length (now (scratch .entry)) ⌝ }
     ensures same { λ r. ⌜ AsWanted (wantedWord number neighbours (now (planes .entry)) fill) (now (scratch .entry)) r ⌝ }
 {

@@ -1,10 +1,16 @@
-//! A start for a program in Rust: the worked examples of document 01 that need one neighbour.
+//! A start for a program in Rust: the worked examples of document 01 that need one neighbour, and three
+//! refusals. A refusal can be displayed too: it then says why, and what to do about it.
 //! examples/run builds it and compares what it prints with examples/stdout.
-use guineacrumb::{root, scratch_length, velocity, Agent, Refusal, Request, Velocity};
+use guineacrumb::{
+    root, scratch_length, velocity, Agent, Refusal, Request, Velocity, MOST_NEIGHBOURS,
+};
 
-fn show(name: &str, request: &Request, neighbour: &Agent) {
-    let mut scratch = [0.0; scratch_length(1)];
-    match velocity(request, std::slice::from_ref(neighbour), &mut scratch) {
+/// One more than a call takes.
+const TOO_MANY: usize = MOST_NEIGHBOURS + 1;
+
+fn show(name: &str, request: &Request, neighbours: &[Agent]) {
+    let mut scratch = [0.0; scratch_length(TOO_MANY)];
+    match velocity(request, neighbours, &mut scratch) {
         Ok(Velocity::Free([x, y, z])) => println!("{name}: velocity {x} {y} {z}, free"),
         Ok(Velocity::Relaxed {
             velocity: [x, y, z],
@@ -37,14 +43,32 @@ fn main() {
     };
     for preferred in [0.5, 1.0, 1.5, 4.0] {
         request.preferred[0] = preferred;
-        show("a neighbour ahead", &request, &neighbour);
+        show("a neighbour ahead", &request, &[neighbour]);
     }
 
     request.preferred[0] = 0.0;
     request.max_speed = 1.0;
     neighbour.position[0] = 0.0;
-    show("a neighbour at the same place", &request, &neighbour);
+    show("a neighbour at the same place", &request, &[neighbour]);
 
     request.time_step = 0.0;
-    show("a time step of 0", &request, &neighbour);
+    show("a time step of 0", &request, &[neighbour]);
+
+    request.time_step = 1.0;
+    show("too many neighbours", &request, &[still; TOO_MANY]);
+
+    // Two neighbours at the same place, one of them far too fast.
+    request.horizon = 1.0;
+    request.agent.velocity[1] = 1.0;
+    request.fallback = [1.0, 0.0, 0.0];
+    let point = Agent {
+        radius: 0.0,
+        responsibility: 0.0,
+        ..still
+    };
+    let quick = Agent {
+        velocity: [0.0, 0.0, 4.7157917e22],
+        ..point
+    };
+    show("a bad pair of bounds", &request, &[point, quick]);
 }

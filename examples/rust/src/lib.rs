@@ -1,5 +1,7 @@
 //! Safe Rust over Guineacrumb's static library. include/guineacrumb.h of the repository says what each
 //! function promises; this crate adds types and no arithmetic.
+use std::error::Error;
+use std::fmt;
 
 extern "C" {
     fn guineacrumb_root(x: f32) -> f32;
@@ -17,6 +19,9 @@ extern "C" {
         relaxed: *mut u64,
     ) -> u32;
 }
+
+/// At most so many neighbours.
+pub const MOST_NEIGHBOURS: usize = 63;
 
 /// The numbers of an agent.
 const AGENT_LENGTH: usize = 8;
@@ -92,12 +97,32 @@ pub enum Velocity {
     },
 }
 
-/// A refusal: its number from 1 to 7, and the place that it is about.
+/// A refusal: its number, and the place that it is about. Displayed, it says why, and what to do about it.
 #[derive(Clone, Copy, PartialEq, Debug)]
 pub struct Refusal {
     pub number: u32,
     pub place: u64,
 }
+
+impl fmt::Display for Refusal {
+    fn fmt(&self, f: &mut fmt::Formatter) -> fmt::Result {
+        let Refusal { number, place } = self;
+        write!(f, "refused, {number} at {place}: ")?;
+        match number {
+            2 => write!(f, "scratch is short; lend {place} numbers"),
+            17 => write!(f, "{place} neighbours; leave out the farthest until {MOST_NEIGHBOURS} are left"),
+            3 => write!(f, "a number is not finite; mend the one at the place"),
+            4 => write!(f, "a number is out of its range; mend the one at the place"),
+            5 => write!(f, "the fallback is no direction of length 1; give one"),
+            6 => write!(f, "the plane of neighbour {place} is not finite; leave the neighbour out"),
+            18 => write!(f, "a bad pair of bounds on plane {place}; look at that neighbour and the maximum speed"),
+            7 => write!(f, "the velocity is not finite; look for numbers of very different sizes"),
+            _ => write!(f, "not a number of this library's"),
+        }
+    }
+}
+
+impl Error for Refusal {}
 
 /// The nearest f32 to the square root of x.
 pub fn root(x: f32) -> f32 {

@@ -119,6 +119,14 @@ impl Call {
             .collect()
     }
 
+    /// The plane that was being solved on when a clamp panicked in the 3D program: the first with which the
+    /// planes up to it, and no others, panic. None where no clamp of that program does.
+    fn clamped_plane(&self, planes: &[Plane]) -> Option<usize> {
+        (0..planes.len()).find(|&k| {
+            caught(|| self.relaxed(&planes[..=k])).is_err_and(|message| is_clamp(&message))
+        })
+    }
+
     /// The plane from which the answer is relaxed.
     pub fn relaxed(&self, planes: &[Plane]) -> Option<usize> {
         Plane::failed_index(planes, self.max_speed, self.preferred)
@@ -128,6 +136,11 @@ impl Call {
     pub fn relaxed_plane(&self) -> Option<usize> {
         self.relaxed(&self.with_planes(&self.borrowed()).1)
     }
+}
+
+/// Whether that is what the Rust says of a clamp whose bounds are crossed, or not numbers.
+fn is_clamp(message: &str) -> bool {
+    message.contains("min > max, or either was NaN")
 }
 
 fn components(plane: &Plane) -> [f32; PLANE] {
@@ -158,13 +171,16 @@ pub fn is_direction([x, y, z]: [f32; 3]) -> bool {
     (0.99999..=1.00001).contains(&((x * x + y * y) + z * z))
 }
 
-/// The refusals that need no plane: lengths, and document 01's 1 to 5, with their places.
+/// The refusals that need no plane, with their places: lengths, the documents' 1 and 17, and then 2 to 5.
 fn refusal(case: &Case) -> Option<(u32, u64)> {
     if case.request.len() != REQUEST || case.velocity.len() != VELOCITY {
         return Some((BAD_LENGTHS, UNWRITTEN));
     }
-    if case.neighbours.len() % AGENT != 0 || case.count() > MOST_NEIGHBOURS {
+    if case.neighbours.len() % AGENT != 0 {
         return Some((1, 0));
+    }
+    if case.count() > MOST_NEIGHBOURS {
+        return Some((17, case.count() as u64));
     }
     let needed = SCRATCH * case.count();
     if case.scratch.len() < needed {
@@ -249,9 +265,7 @@ pub fn expected(case: &Case) -> Expected {
     }
     let (velocity, planes) = match result {
         Ok((velocity, planes)) => (Some(velocity), planes),
-        Err(message) if message.contains("min > max, or either was NaN") => {
-            (None, call.planes_one_by_one())
-        }
+        Err(message) if is_clamp(&message) => (None, call.planes_one_by_one()),
         Err(message) => return Expected::Surprise(format!("the Rust panicked: {message}")),
     };
     let finite = |numbers: &[f32]| numbers.iter().all(|x| x.is_finite());
@@ -259,7 +273,10 @@ pub fn expected(case: &Case) -> Expected {
         return Expected::Reply(Reply::refused_late(case, 6, bad as u64));
     }
     match velocity {
-        None => Expected::Panic(Reply::refused_late(case, 7, 0)),
+        None => match call.clamped_plane(&planes) {
+            Some(plane) => Expected::Panic(Reply::refused_late(case, 18, plane as u64)),
+            None => Expected::Surprise("a clamp panicked outside the 3D program".into()),
+        },
         Some(v) if finite(&[v.x, v.y, v.z]) => {
             Expected::Reply(Reply::done(case, v, &planes, call.relaxed(&planes)))
         }
@@ -267,9 +284,9 @@ pub fn expected(case: &Case) -> Expected {
     }
 }
 
-/// Whether a reply to a case that is left out keeps to what document 01 says of every answer: it is 0, 6
-/// or 7, since the checks before passed; a velocity that is refused is three +0s; and scratch is as it has
-/// to be.
+/// Whether a reply to a case that is left out keeps to what the documents say of every answer: it is 0, 6,
+/// 18 or 7, since the checks before passed; a velocity that is refused is three +0s; and scratch is as it
+/// has to be.
 pub fn well_formed(case: &Case, reply: &Reply) -> bool {
     let (planes, rest) = (PLANE * case.count(), SCRATCH * case.count());
     let finite = |words: &[u32]| words.iter().all(|&word| f32::from_bits(word).is_finite());
@@ -282,7 +299,7 @@ pub fn well_formed(case: &Case, reply: &Reply) -> bool {
                 && reply.place == 0
                 && (reply.relaxed == NO_PLANE || reply.relaxed < case.count() as u64)
         }
-        6 | 7 => {
+        6 | 7 | 18 => {
             zero(&reply.velocity) && zero(&reply.scratch[..planes]) && reply.relaxed == NO_PLANE
         }
         _ => false,

@@ -78,7 +78,7 @@ fn plan_line(reply: &Reply, kept: &[usize]) -> String {
     match (reply.answer, reply.relaxed) {
         (0, NO_PLANE) => format!("velocity {} free", words()),
         (0, plane) => format!("velocity {} relaxed {plane}", words()),
-        // the place is the neighbour's table index
+        // the place is the neighbour's table index; 18's is the plane of the call
         (6, _) => format!("refused 6 {}", kept[reply.place as usize]),
         (number, _) => format!("refused {number} {}", reply.place),
     }

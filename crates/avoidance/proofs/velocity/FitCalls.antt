@@ -1,5 +1,5 @@
 -- What a velocity call on fit numbers answers.
---     fit-call: an answer, or refusal 2, 3 for the preferred velocity, 6 or 7, and nothing else
+--     fit-call: an answer, or refusal 2, 3 for the preferred velocity, 6, 18 or 7, and nothing else
 use mathlib.Core.Path.{_≡_, refl, _∙_}
 use mathlib.Core.Bool.{Bool, true, false, cond}
 use mathlib.Core.List.{List, []}
@@ -23,12 +23,12 @@ use Rattle.solver.specs.Solve.{solve}
 use Rattle.avoidance.specs.declared.Request.{Request}
 use Rattle.avoidance.specs.declared.Asked.the-variants.{Finite, InRange}
 use Rattle.avoidance.specs.declared.Reply.{Reply}
-use Rattle.avoidance.specs.declared.Reply.the-variants.{Refused}
+use Rattle.avoidance.specs.declared.Reply.the-variants.{Answered, Refused}
 use Rattle.avoidance.specs.Lent.{perAgent, agentNumbers}
 use Rattle.avoidance.specs.Request.{preferredPlace, maxSpeedPlace}
-use Rattle.avoidance.specs.Checks.{mostNeighbours, callKind, badNumber, badNeighbours, neededScratch, shortScratch, checks}
+use Rattle.avoidance.specs.Checks.{mostNeighbours, callKind, badNumber, ragged, tooMany, neededScratch, shortScratch, checks}
 use Rattle.avoidance.specs.Reply.{number, placeOf}
-use Rattle.avoidance.specs.Velocity.{planesOfCall, badPlane, answered, replyOf, planesVerdict, plannedReply, velocityCall}
+use Rattle.avoidance.specs.Velocity.{planesOfCall, badPlane, answeredWith, outcomeReply, replyOf, planesVerdict, plannedReply, velocityCall}
 use Rattle.avoidance.proofs.AgentNumbers.{numbers-many}
 use Rattle.avoidance.proofs.Ranges.{never-outside}
 use Rattle.avoidance.proofs.checks.CallNumbers.{FitRequest, FitNeighbours, vectorNumbers, firstFrom, first-preferred}
@@ -38,6 +38,7 @@ pub data FitReply (reply : Reply) : Type 0 where
   shortOf : number reply ≡ 2 → FitReply reply
   farPreferred : number reply ≡ 3 → preferredPlace ≤ placeOf reply → placeOf reply < maxSpeedPlace → FitReply reply
   planeNotFinite : number reply ≡ 6 → FitReply reply
+  badClamp : number reply ≡ 18 → FitReply reply
   noVelocity : number reply ≡ 7 → FitReply reply
 
 -- ---- what the checks find
@@ -69,12 +70,13 @@ fit-length : {n : ℕ} {xs : List Float} → FitNeighbours n xs → length xs �
 fit-length FitNeighbours.none = refl
 fit-length (FitNeighbours.more {n = n} {xs = xs} a fit later) = length-append (agentNumbers a) xs ∙ omega (arith, numbers-many a, fit-length later)
 
-neighbours-whole : {n : ℕ} {xs : List Float} → FitNeighbours n xs → n ≤ mostNeighbours → badNeighbours xs ≡ false
-unfolding badNeighbours
-neighbours-whole {n} {xs} fits few =
+neighbours-whole : {n : ℕ} {xs : List Float} → FitNeighbours n xs → ragged xs ≡ false
+neighbours-whole {xs = xs} fits =
     let whole : length xs % perAgent ≡ 0 = omega (arith, fit-length fits) in
-    let count : length xs / perAgent ≤ mostNeighbours = omega (arith, fit-length fits) in
-    rw (whole, le-ltb mostNeighbours (length xs / perAgent) count)
+    rw whole
+
+neighbours-few : {n : ℕ} {xs : List Float} → FitNeighbours n xs → n ≤ mostNeighbours → tooMany xs ≡ false
+neighbours-few {xs = xs} fits few = le-ltb mostNeighbours (length xs / perAgent) (omega (arith, fit-length fits))
 
 -- ---- what is answered
 
@@ -84,12 +86,19 @@ checked-fit true needed found planned unfinite fit = shortOf refl
 checked-fit false needed found planned nowhere fit = fit
 checked-fit false needed found planned (somewhere place low high) fit = farPreferred refl low high
 
-solved-fit : (value-finite : Bool) (outcome : Outcome) (v : Vec3) → FitReply (cond value-finite (answered outcome v) (Refused NoVelocity))
-unfolding answered
-solved-fit true (Feasible value) v = isAnswer refl
-solved-fit true (Infeasible failure) v = isAnswer refl
-solved-fit true (BadClamp index) v = noVelocity refl
-solved-fit false outcome v = noVelocity refl
+valued-fit : (value : Vec3) (relaxed : Found) → FitReply (answeredWith value relaxed)
+unfolding answeredWith
+valued-fit value relaxed = go (finiteVec value)
+  where
+    go : (b : Bool) → FitReply (cond b (Answered (record { velocity = plusZeros value; relaxed = relaxed })) (Refused NoVelocity))
+    go true = isAnswer refl
+    go false = noVelocity refl
+
+solved-fit : (outcome : Outcome) (value : Vec3) → FitReply (outcomeReply outcome value)
+unfolding outcomeReply
+solved-fit (Feasible best) value = valued-fit value Nothing
+solved-fit (Infeasible failure) value = valued-fit value (At (failure .index))
+solved-fit (BadClamp plane) value = badClamp refl
 
 planes-fit : (found : Found) (reply : Reply) → FitReply reply → FitReply (settledBy (refusedAt found PlaneNotFinite) Refused reply)
 planes-fit (At neighbour) reply fit = planeNotFinite refl
@@ -100,11 +109,11 @@ unfolding plannedReply planesVerdict replyOf
 planned-fit request neighbours =
     let planes = planesOfCall request neighbours in
     let solution = solve planes (request .«max_speed») (request .preferred) in
-    planes-fit (firstBad badPlane 0 planes) (replyOf solution) (solved-fit (finiteVec (solution .value)) (solution .outcome) (plusZeros (solution .value)))
+    planes-fit (firstBad badPlane 0 planes) (replyOf solution) (solved-fit (solution .outcome) (solution .value))
 
 pub fit-call : (request : Request) (neighbours : List Float) (n k : ℕ) → FitRequest request → FitNeighbours n neighbours → n ≤ mostNeighbours → FitReply (velocityCall request neighbours k)
 unfolding velocityCall checks
 fit-call request neighbours n k fit fits few =
     let in-range = first-preferred InRange request fit neighbours fits ∙ preferred-in-range (request .preferred) in
-    rw (neighbours-whole fits few, first-preferred Finite request fit neighbours fits, in-range, fit .unit)
+    rw (neighbours-whole fits, neighbours-few fits few, first-preferred Finite request fit neighbours fits, in-range, fit .unit)
     (checked-fit (shortScratch neighbours k) (neededScratch neighbours) _ (plannedReply request neighbours) (preferred-finite (request .preferred)) (planned-fit request neighbours))

@@ -73,13 +73,22 @@ fn smallest(server: &mut Server, case: &Case) -> io::Result<Case> {
     Ok(least)
 }
 
+/// The numbers of the refusals, in the order of the checks.
+const NUMBERS: [u32; 9] = [1, 17, 2, 3, 4, 5, 6, 18, 7];
+
+/// Where a refusal's number stands among them.
+fn at(number: u32) -> usize {
+    let at = NUMBERS.iter().position(|&other| other == number);
+    at.expect("it is a number of the velocity call's")
+}
+
 /// What was counted, of one kind of input or of all.
 #[derive(Clone, Copy, Default)]
 struct Tally {
     cases: u64,
     free: u64,
     relaxed: u64,
-    refused: [u64; 8],
+    refused: [u64; NUMBERS.len()],
     bad_lengths: u64,
     panicked: u64,
     left_out: u64,
@@ -98,14 +107,16 @@ impl Tally {
                 0 if reply.relaxed == NO_PLANE => self.free += 1,
                 0 => self.relaxed += 1,
                 BAD_LENGTHS => self.bad_lengths += 1,
-                number => self.refused[number as usize] += 1,
+                number => self.refused[at(number)] += 1,
             },
         }
     }
 
     fn line(&self) -> String {
-        let refused: Vec<String> = (1..8)
-            .map(|number| format!("{number}: {}", self.refused[number]))
+        let refused: Vec<String> = NUMBERS
+            .iter()
+            .zip(self.refused)
+            .map(|(number, often)| format!("{number}: {often}"))
             .collect();
         format!(
             "{} cases, {} free, {} relaxed, refused {}, lengths: {} (the Rust panics at {}), \

@@ -1,23 +1,23 @@
 -- Seven returns, each with the outcomes of the tests before it, which decide the definition's chain of refusals up to there.
 use borrow.Author.Tests.{eq-eqb, ne-eqb, lt-ltb, le-ltb}
 use borrow.Author.Needs.{needs}
-use Rattle.avoidance.specs.Checks.{checks, badNeighbours}
+use Rattle.avoidance.specs.Checks.{checks}
 use Rattle.avoidance.proofs.checks.checks.Statement.{statement}
 use Rattle.avoidance.proofs.checks.checks.Tie as tie
 
 returns : tie.Need-returns
-unfolding checks badNeighbours
+unfolding checks
 returns c = simp (ne-eqb _ _ (c .if1 .taken))
 
 returns-2 : tie.Need-returns-2
-unfolding checks badNeighbours
+unfolding checks
 returns-2 c = simp (eq-eqb _ _ (c .before .if1 .left), lt-ltb _ _ (c .if2 .taken))
 
 mul-needed : tie.Need-mul-needed
 mul-needed c = search needs
 
 returns-3 : tie.Need-returns-3
-unfolding checks badNeighbours
+unfolding checks
 returns-3 c = simp (eq-eqb _ _ (c .before .before .if1 .left), le-ltb _ _ (c .before .if2 .left), lt-ltb _ _ (c .if3 .taken))
 
 first-of-requires : tie.Need-first-of-requires
@@ -27,7 +27,7 @@ enum-known-place : tie.Need-enum-known-place
 enum-known-place c = search needs
 
 returns-4 : tie.Need-returns-4
-unfolding checks badNeighbours
+unfolding checks
 returns-4 c = simp (eq-eqb _ _ (c .before .before .before .before .before .before .if1 .left), le-ltb _ _ (c .before .before .before .before .before .if2 .left), le-ltb _ _ (c .before .before .before .before .if3 .left), ← c .before .before .before .first-of .ensures, c .before .place .given .1)
 
 enum-told : tie.Need-enum-told
@@ -40,7 +40,7 @@ enum-known-place-2 : tie.Need-enum-known-place-2
 enum-known-place-2 c = search needs
 
 returns-5 : tie.Need-returns-5
-unfolding checks badNeighbours
+unfolding checks
 returns-5 c = simp (eq-eqb _ _ (c .before .before .before .before .before .before .before .before .before .if1 .left), le-ltb _ _ (c .before .before .before .before .before .before .before .before .if2 .left), le-ltb _ _ (c .before .before .before .before .before .before .before .if3 .left), ← c .before .before .before .before .before .before .first-of .ensures, c .before .before .before .before .enum-told .given .1, ← c .before .before .before .first-of2 .ensures, c .before .place2 .given .1)
 
 enum-told-2 : tie.Need-enum-told-2
@@ -50,11 +50,11 @@ bad-fallback-requires : tie.Need-bad-fallback-requires
 bad-fallback-requires c κs = search needs
 
 returns-6 : tie.Need-returns-6
-unfolding checks badNeighbours
+unfolding checks
 returns-6 c = simp (eq-eqb _ _ (c .before .before .before .before .before .before .before .before .before .before .if1 .left), le-ltb _ _ (c .before .before .before .before .before .before .before .before .before .if2 .left), le-ltb _ _ (c .before .before .before .before .before .before .before .before .if3 .left), ← c .before .before .before .before .before .before .before .first-of .ensures, c .before .before .before .before .before .enum-told .given .1, ← c .before .before .before .before .first-of2 .ensures, c .before .before .enum-told2 .given .1, ← c .before .bad-fallback .ensures, c .if4 .taken)
 
 returns-7 : tie.Need-returns-7
-unfolding checks badNeighbours
+unfolding checks
 returns-7 c = simp (eq-eqb _ _ (c .before .before .before .before .before .before .before .before .before .before .if1 .left), le-ltb _ _ (c .before .before .before .before .before .before .before .before .before .if2 .left), le-ltb _ _ (c .before .before .before .before .before .before .before .before .if3 .left), ← c .before .before .before .before .before .before .before .first-of .ensures, c .before .before .before .before .before .enum-told .given .1, ← c .before .before .before .before .first-of2 .ensures, c .before .before .enum-told2 .given .1, ← c .before .bad-fallback .ensures, c .if4 .left)
 
 pub checks-spec : {M : Type 1} → statement M

@@ -1,57 +1,45 @@
--- A value that is not finite is no velocity; past that, one case for each outcome, with the velocity that `plus_zeros` ensures.
-use borrow.Author.Tests.{not-true, not-false}
+-- One case for each outcome: a bad clamp is refused, and of the others the reply is what `answered_with` ensures.
 use borrow.Author.Needs.{needs}
-use Rattle.avoidance.specs.Velocity.{replyOf, answered}
+use Rattle.avoidance.specs.Velocity.{outcomeReply, replyOf}
 use Rattle.avoidance.proofs.velocity.reply_of.Statement.{statement}
 use Rattle.avoidance.proofs.velocity.reply_of.Tie as tie
-
-is-finite-requires : tie.Need-is-finite-requires
-is-finite-requires c κs = search needs
-
-returns : tie.Need-returns
-unfolding replyOf answered
-returns c = simp (← c .before .is-finite .ensures, not-true (c .before .is-finite .result) (c .if1 .taken))
-
-plus-zeros-requires : tie.Need-plus-zeros-requires
-plus-zeros-requires c κs = search needs
 
 enum-told : tie.Need-enum-told
 enum-told c = search needs
 
+answered-with-requires : tie.Need-answered-with-requires
+answered-with-requires c κs = search needs
+
 enum-known-outcome : tie.Need-enum-known-outcome
 enum-known-outcome c = search needs
 
-enum-told-2 : tie.Need-enum-told-2
-enum-told-2 c = search needs
+answered-with-requires-2 : tie.Need-answered-with-requires-2
+answered-with-requires-2 c κs = search needs
+
+enum-known-outcome-2 : tie.Need-enum-known-outcome-2
+enum-known-outcome-2 c = search needs
+
+returns : tie.Need-returns
+unfolding replyOf outcomeReply
+returns c = simp (c .before .enum-told .given .1, c .answered-with .ensures)
 
 returns-2 : tie.Need-returns-2
-unfolding replyOf answered
-returns-2 c =
-    let b3 = c .before .before .before in
-    simp (← b3 .before .is-finite .ensures, not-false (b3 .before .is-finite .result) (b3 .if1 .left), ← c .before .before .plus-zeros .ensures, c .enum-told .given .1)
+unfolding replyOf outcomeReply
+returns-2 c = simp (c .before .before .outcome .given .1, c .answered-with2 .ensures)
 
 returns-3 : tie.Need-returns-3
-unfolding replyOf answered
-returns-3 c =
-    let b3 = c .before .before .before in
-    simp (← b3 .before .before .is-finite .ensures, not-false (b3 .before .before .is-finite .result) (b3 .before .if1 .left), ← b3 .plus-zeros .ensures, c .before .outcome .given .1)
-
-returns-4 : tie.Need-returns-4
-unfolding replyOf answered
-returns-4 c =
-    let b3 = c .before .before .before in
-    simp (← b3 .before .is-finite .ensures, not-false (b3 .before .is-finite .result) (b3 .if1 .left), c .enum-told2 .given .1)
+unfolding replyOf outcomeReply
+returns-3 c = simp (c .before .outcome2 .given .1)
 
 pub reply-of-spec : {M : Type 1} → statement M
 reply-of-spec =
     tie.close
     (tie.spec
-    is-finite-requires
-    returns
-    plus-zeros-requires
     enum-told
+    answered-with-requires
     enum-known-outcome
-    enum-told-2
+    answered-with-requires-2
+    enum-known-outcome-2
+    returns
     returns-2
-    returns-3
-    returns-4)
+    returns-3)

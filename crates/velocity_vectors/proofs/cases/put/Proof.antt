@@ -8,7 +8,7 @@ use Rattle.velocity_vectors.proofs.cases.put.Statement.{statement}
 use Rattle.velocity_vectors.proofs.cases.put.Tie as tie
 
 abbrev Inv-loop : tie.InvT-loop
-Inv-loop at count words numbers₀ i₀ numbers i = (i ≤ count) × (529 ≡ length numbers)
+Inv-loop at count words numbers₀ i₀ numbers i = (i ≤ count) × (537 ≡ length numbers)
 
 abbrev μ-loop : tie.MeasureT-loop
 μ-loop at count words numbers₀ i₀ numbers i = count - i

@@ -1,6 +1,6 @@
 -- `velocity_vectors::scratch::wanted_word` meets its contract: each return is what `wantedWord` picks by the tests that led there.
 -- Assumes nothing.
-use borrow.Author.Tests.{lt-ltb, le-ltb, le-leb, lt-leb, eq-eqb, ne-eqb}
+use borrow.Author.Tests.{lt-ltb, le-ltb, eq-eqb, ne-eqb}
 use borrow.Author.Needs.{needs}
 use Rattle.velocity_vectors.specs.Scratch.{wantedWord}
 use Rattle.velocity_vectors.proofs.scratch.wanted_word.Statement.{statement}
@@ -40,13 +40,16 @@ returns-3 c =
     (lt-ltb _ _ (at-if3 .before .before .if1 .left), eq-eqb _ _ (at-if3 .before .if2 .taken), lt-ltb _ _ (at-if3 .if3 .left))
     (c .to-word .ensures)
 
+clears-requires : tie.Need-clears-requires
+clears-requires c κs = search needs
+
 returns-4 : tie.Need-returns-4
 unfolding wantedWord
-returns-4 c = simp (lt-ltb _ _ (c .before .before .if1 .left), ne-eqb _ _ (c .before .if2 .left), le-leb _ _ (c .if4 .taken))
+returns-4 c = simp (lt-ltb _ _ (c .before .before .before .if1 .left), ne-eqb _ _ (c .before .before .if2 .left), ← c .before .clears .ensures, c .if4 .taken)
 
 returns-5 : tie.Need-returns-5
 unfolding wantedWord
-returns-5 c = simp (lt-ltb _ _ (c .before .before .if1 .left), ne-eqb _ _ (c .before .if2 .left), lt-leb _ _ (c .if4 .left)) (c .before .before .before .word-before .ensures)
+returns-5 c = simp (lt-ltb _ _ (c .before .before .before .if1 .left), ne-eqb _ _ (c .before .before .if2 .left), ← c .before .clears .ensures, c .if4 .left) (c .before .before .before .before .word-before .ensures)
 
 pub wanted-word-spec : {M : Type 1} → statement M
 wanted-word-spec =
@@ -61,5 +64,6 @@ wanted-word-spec =
     element-copy-out-to-word
     to-word-requires
     returns-3
+    clears-requires
     returns-4
     returns-5)
