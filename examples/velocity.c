@@ -28,11 +28,11 @@ static void show(const char *name, const struct request *request, const struct a
                  size_t count) {
     float scratch[GUINEACRUMB_SCRATCH_LENGTH(TOO_MANY)];
     float velocity[GUINEACRUMB_VELOCITY_LENGTH];
-    uint64_t place, relaxed;
+    uint64_t place, relaxed, unseen;
     uint32_t answer = guineacrumb_velocity(
         (const float *)request, GUINEACRUMB_REQUEST_LENGTH, (const float *)neighbours,
         count * GUINEACRUMB_AGENT_LENGTH, scratch, GUINEACRUMB_SCRATCH_LENGTH(TOO_MANY), velocity,
-        GUINEACRUMB_VELOCITY_LENGTH, &place, &relaxed);
+        GUINEACRUMB_VELOCITY_LENGTH, &place, &relaxed, &unseen);
     printf("%s: ", name);
     if (answer != 0) {
         printf("refused, %" PRIu32 " at %" PRIu64 "\n", answer, place);
@@ -40,9 +40,12 @@ static void show(const char *name, const struct request *request, const struct a
     }
     printf("velocity %g %g %g, ", velocity[0], velocity[1], velocity[2]);
     if (relaxed == GUINEACRUMB_NO_PLANE)
-        printf("free\n");
+        printf("free");
     else
-        printf("relaxed from plane %" PRIu64 "\n", relaxed);
+        printf("relaxed from plane %" PRIu64, relaxed);
+    if (unseen != GUINEACRUMB_NO_NEIGHBOUR)
+        printf(", neighbour %" PRIu64 " NOT AVOIDED", unseen);
+    printf("\n");
 }
 
 int main(void) {
@@ -76,6 +79,18 @@ int main(void) {
     static const struct agent many[TOO_MANY];
     request.time_step = 1;
     show("too many neighbours", &request, many, TOO_MANY);
+
+    /* Flying at a neighbour head-on, past where it can be turned from. */
+    struct request fast = {
+        .agent = {.velocity = {10, 0, 0}, .radius = 2, .responsibility = 1},
+        .preferred = {10, 0, 0},
+        .max_speed = 10,
+        .time_step = 0.5f,
+        .horizon = 1,
+        .fallback = {0, 0, 1},
+    };
+    const struct agent ahead = {.position = {5, 0, 0}, .radius = 1, .responsibility = 1};
+    show("a neighbour head-on", &fast, &ahead, 1);
 
     /* Two neighbours at the same place, one of them far too fast. */
     request.horizon = 1;

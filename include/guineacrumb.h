@@ -44,8 +44,9 @@ float guineacrumb_root(float x);
 /* The answer to lengths that do not fit. */
 #define GUINEACRUMB_BAD_LENGTHS 255
 
-/* What stands for no plane. */
+/* What stands for no plane, and for no neighbour. */
 #define GUINEACRUMB_NO_PLANE UINT64_MAX
+#define GUINEACRUMB_NO_NEIGHBOUR UINT64_MAX
 
 /*
  * The velocity nearest to the preferred one that avoids the neighbours: `compute_avoiding_velocity` of the
@@ -59,7 +60,8 @@ float guineacrumb_root(float x);
  *     neighbours   their numbers, 8 to each, at most 63
  *     scratch      at least 12 numbers to each neighbour; what they hold alters no answer
  *     velocity     3 numbers, where the velocity is written
- *     place, relaxed   where the answer's place and the relaxed plane are written
+ *     place, relaxed, unseen   where the answer's place, the relaxed plane and the unseen neighbour are
+ *                  written
  *
  * A length counts numbers, not bytes. No pointer is null, not even with a length of 0, and what is lent to
  * be written overlaps nothing else that is lent.
@@ -98,8 +100,15 @@ float guineacrumb_root(float x);
  * With 0, relaxed is the plane from which the velocity is relaxed, where the planes leave none free, and
  * GUINEACRUMB_NO_PLANE where it is free. A zero component is written as +0.
  *
- * With a refusal but 255, the velocity is three +0s and relaxed is GUINEACRUMB_NO_PLANE. With 255, nothing
- * is written.
+ * With 0, unseen is the first neighbour that is unseen, and GUINEACRUMB_NO_NEIGHBOUR where all are seen.
+ * UNSEEN MEANS NOT AVOIDED. Flying straight at a neighbour, faster than the horizon allows for, there is no
+ * side to turn to: the plane's normal is zero, the plane keeps no velocity out, and the velocity that is
+ * written does not turn away from that neighbour. Later neighbours may be unseen too: the planes in scratch
+ * whose normal is three zeros are those. Whoever flies the drone has to do something about it: hold, or ask
+ * again with a preferred velocity a little to one side.
+ *
+ * With a refusal but 255, the velocity is three +0s, relaxed is GUINEACRUMB_NO_PLANE and unseen is
+ * GUINEACRUMB_NO_NEIGHBOUR. With 255, nothing is written.
  *
  * Scratch, with n neighbours: 0 leaves their planes in its first 6n numbers, in order, each a point and a
  * normal, and +0 in the next 6n; 6, 18 and 7 leave +0 in its first 12n; 1, 17, 2 to 5 and 255 leave it as
@@ -108,7 +117,7 @@ float guineacrumb_root(float x);
 uint32_t guineacrumb_velocity(const float *request, size_t request_length, const float *neighbours,
                               size_t neighbours_length, float *scratch, size_t scratch_length,
                               float *velocity, size_t velocity_length, uint64_t *place,
-                              uint64_t *relaxed);
+                              uint64_t *relaxed, uint64_t *unseen);
 
 #ifdef __cplusplus
 }

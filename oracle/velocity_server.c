@@ -8,7 +8,7 @@
  *     a batch    its kind (1 calls, 2 times), passes, the number of calls, then each call
  *     a call     the lengths of request, neighbours, scratch and velocity, then the numbers of each
  *     a reply    to a batch of calls, for each: the answer, whether anything was written that was not lent
- *                to be written, place and relaxed plane (two words each), scratch, velocity
+ *                to be written, place, relaxed plane and unseen neighbour (two words each), scratch, velocity
  *     a time     to a batch of times: nanoseconds for so many passes over the calls (two words)
  *
  * Timed calls share one scratch, which is not cleared between them, and have their request and neighbours
@@ -34,7 +34,7 @@ enum { REQUEST, NEIGHBOURS, SCRATCH, VELOCITY, LENT };
 #define GUARDS 8
 #define GUARD 0x5A5A5A5Au
 
-/* What place and relaxed plane hold before a call. */
+/* What place, relaxed plane and unseen neighbour hold before a call. */
 #define UNWRITTEN 0xA5A5A5A5A5A5A5A5u
 
 _Static_assert(sizeof(float) == sizeof(uint32_t), "a number is a word");
@@ -103,11 +103,12 @@ static float *lent(struct words *memory, const struct call *call, int i) {
     return (float *)(memory->at + call->start[i]);
 }
 
-static uint32_t make(struct words *memory, const struct call *call, uint64_t *place, uint64_t *relaxed) {
+static uint32_t make(struct words *memory, const struct call *call, uint64_t *place, uint64_t *relaxed,
+                     uint64_t *unseen) {
     return guineacrumb_velocity(lent(memory, call, REQUEST), call->length[REQUEST],
                                 lent(memory, call, NEIGHBOURS), call->length[NEIGHBOURS],
                                 lent(memory, call, SCRATCH), call->length[SCRATCH],
-                                lent(memory, call, VELOCITY), call->length[VELOCITY], place, relaxed);
+                                lent(memory, call, VELOCITY), call->length[VELOCITY], place, relaxed, unseen);
 }
 
 /* Whether the words that a call leaves differ from those before it where nothing was lent to be written. */
@@ -123,12 +124,12 @@ static uint32_t strayed(const struct words *memory, const struct words *before, 
 
 static void reply(struct words *memory, const struct words *before, const struct call *call,
                   struct words *replies) {
-    uint64_t written[] = {UNWRITTEN, UNWRITTEN};
+    uint64_t written[] = {UNWRITTEN, UNWRITTEN, UNWRITTEN};
     uint32_t first[2];
-    first[0] = make(memory, call, &written[0], &written[1]);
+    first[0] = make(memory, call, &written[0], &written[1], &written[2]);
     first[1] = strayed(memory, before, call);
     append(replies, first, 2);
-    append(replies, written, 4);
+    append(replies, written, 6);
     append(replies, memory->at + call->start[SCRATCH], call->length[SCRATCH]);
     append(replies, memory->at + call->start[VELOCITY], call->length[VELOCITY]);
 }
@@ -143,7 +144,7 @@ static uint64_t now(void) {
 static volatile uint32_t sink;
 
 static uint64_t time_of(struct words *memory, struct call *calls, size_t count, uint32_t passes) {
-    uint64_t place, relaxed;
+    uint64_t place, relaxed, unseen;
     uint32_t mixed = 0;
     for (size_t i = 1; i < count; i++) {
         if (calls[i].length[SCRATCH] > calls[0].length[SCRATCH])
@@ -153,7 +154,7 @@ static uint64_t time_of(struct words *memory, struct call *calls, size_t count, 
     uint64_t start = now();
     for (uint32_t pass = 0; pass < passes; pass++)
         for (size_t i = 0; i < count; i++)
-            mixed ^= make(memory, &calls[i], &place, &relaxed);
+            mixed ^= make(memory, &calls[i], &place, &relaxed, &unseen);
     uint64_t end = now();
     sink = mixed;
     return end - start;

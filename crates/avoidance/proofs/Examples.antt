@@ -31,7 +31,7 @@ use Rattle.avoidance.specs.Request.{requestNumbers}
 use Rattle.avoidance.specs.Neighbour.{planeFor, relationOf, projected, projectedFree, projectedCollision, collisionNormal, onSphere, onCone, coneTime, share}
 use Rattle.avoidance.specs.Checks.{checks, badFallback, firstOf, badNumber, outside, callKind}
 use Rattle.solver.specs.Solve.{solve, valueOf}
-use Rattle.avoidance.specs.Velocity.{planesOfCall, planesFrom, planeOf, finitePlane, answeredWith, outcomeReply, replyOf, planesVerdict, plannedReply, velocityCall}
+use Rattle.avoidance.specs.Velocity.{planesOfCall, unseenOfCall, eachFrom, planeOf, finitePlane, answeredWith, outcomeReply, replyOf, planesVerdict, plannedReply, velocityCall}
 
 -- ---- what an example says
 
@@ -81,12 +81,15 @@ ten = ofWord 0x4120_0000
 abbrev tiny : Float
 tiny = ofWord 0x1780_0000
 
--- an answer that no plane relaxes, and one that is relaxed from a plane on
+-- an answer that no plane relaxes, and one that is relaxed from a plane on, both with every neighbour seen; and one that names a neighbour which is not
 abbrev free : Vec3 → Reply
-free v = Answered (record { velocity = v; relaxed = Nothing })
+free v = Answered (record { velocity = v; relaxed = Nothing; unseen = Nothing })
 
 abbrev relaxedFrom : ℕ → Vec3 → Reply
-relaxedFrom plane v = Answered (record { velocity = v; relaxed = At plane })
+relaxedFrom plane v = Answered (record { velocity = v; relaxed = At plane; unseen = Nothing })
+
+abbrev freeBut : ℕ → Vec3 → Reply
+freeBut neighbour v = Answered (record { velocity = v; relaxed = Nothing; unseen = At neighbour })
 
 abbrev along : Float → Vec3
 along x = record { x = x; y = zero; z = zero }
@@ -137,9 +140,9 @@ pub worked-examples : All (
     ∷ relaxed opposed two failed (along zero)
     -- head-on past the ring
     ∷ planes headOn (neighbour five) (record { point = along ten; normal = along zero } ∷ [])
-    ∷ reply headOn (neighbour five) (free (along ten))
+    ∷ reply headOn (neighbour five) (freeBut 0 (along ten))
     -- no neighbours, and a square that underflows
     ∷ reply (still tiny zero) [] (free (along tiny))
     ∷ [])
-unfolding threeD startIn fromPlane byPlane inTurn alongPlane startOn startInCircle onCircle lineOn fromLine byLine byConstraint alongLine bestOn atClamped pointOn cutAll cutBy openOr signedDistance fourD relaxBy relaxedTo turnedAll kept turnBy turnedPlane _+ᵥ_ _-ᵥ_ _*ᵥ_ dot cross lengthSquared normalize root larger smaller clamped add sub mul div neg lt le eq isNan ofBits planesOfCall planesFrom planeOf vectorAt agentAt planeFor relationOf projected projectedFree projectedCollision collisionNormal onSphere onCone coneTime share _/ᵥ_ lengthRecip normalizeOrZero zeroVec finite plusZero finiteVec finitePlane plusZeros answeredWith outcomeReply replyOf planesVerdict plannedReply velocityCall solve valueOf checks badFallback firstOf badNumber outside callKind requestNumbers firstHolding marked
+unfolding threeD startIn fromPlane byPlane inTurn alongPlane startOn startInCircle onCircle lineOn fromLine byLine byConstraint alongLine bestOn atClamped pointOn cutAll cutBy openOr signedDistance fourD relaxBy relaxedTo turnedAll kept turnBy turnedPlane _+ᵥ_ _-ᵥ_ _*ᵥ_ dot cross lengthSquared normalize root larger smaller clamped add sub mul div neg lt le eq isNan ofBits planesOfCall unseenOfCall eachFrom planeOf vectorAt agentAt planeFor relationOf projected projectedFree projectedCollision collisionNormal onSphere onCone coneTime share _/ᵥ_ lengthRecip normalizeOrZero zeroVec finite plusZero finiteVec finitePlane plusZeros answeredWith outcomeReply replyOf planesVerdict plannedReply velocityCall solve valueOf checks badFallback firstOf badNumber outside callKind requestNumbers firstHolding marked
 worked-examples = (refl, (refl, (refl, (refl, (refl, (refl, (refl, (refl, (refl, (refl, (refl, (refl, (refl, tt)))))))))))))

@@ -41,7 +41,7 @@ use Rattle.avoidance.specs.Lent.{agentCount}
 use Rattle.avoidance.specs.Request.{fallbackPlace}
 use Rattle.avoidance.specs.Checks.{badNumber, callNumbers, firstOf, ragged, tooMany, neededScratch, shortScratch, badFallback, checks}
 use Rattle.avoidance.specs.Reply.{number, velocityOf}
-use Rattle.avoidance.specs.Velocity.{planesOfCall, badPlane, answeredWith, outcomeReply, replyOf, planesVerdict, plannedReply, velocityCall, scratchAfter}
+use Rattle.avoidance.specs.Velocity.{planesOfCall, badPlane, firstUnseen, answeredWith, outcomeReply, replyOf, planesVerdict, plannedReply, velocityCall, scratchAfter}
 use Rattle.avoidance.specs.Conditions.{badClamp, velocityConditions}
 
 -- ---- the lowest place
@@ -100,19 +100,19 @@ late-says clamp plane value =
     let unfinite = refusedIf (not (finiteVec value)) refusal.NoVelocity in
     then (refusedIf clamp (refusal.BadClamp plane)) unfinite ((18, clamp) ∷ []) _ (held-says clamp (refusal.BadClamp plane)) (held-says (not (finiteVec value)) refusal.NoVelocity)
 
-valued-says : (value : Vec3) (relaxed : Found) → refusedWith (answeredWith value relaxed) ≡ said (lateVerdict false 0 value)
+valued-says : (value : Vec3) (relaxed unseen : Found) → refusedWith (answeredWith value relaxed unseen) ≡ said (lateVerdict false 0 value)
 unfolding answeredWith
-valued-says value relaxed = go (finiteVec value)
+valued-says value relaxed unseen = go (finiteVec value)
   where
-    go : (b : Bool) → refusedWith (cond b (Answered (record { velocity = plusZeros value; relaxed = relaxed })) (Refused refusal.NoVelocity)) ≡ said (refusedIf (not b) refusal.NoVelocity)
+    go : (b : Bool) → refusedWith (cond b (Answered (record { velocity = plusZeros value; relaxed = relaxed; unseen = unseen })) (Refused refusal.NoVelocity)) ≡ said (refusedIf (not b) refusal.NoVelocity)
     go true = refl
     go false = refl
 
-solution-says : (outcome : Outcome) (value : Vec3) → refusedWith (outcomeReply outcome value) ≡ firstHolding ((18, badClamp outcome) ∷ (7, not (finiteVec value)) ∷ [])
+solution-says : (outcome : Outcome) (value : Vec3) (unseen : Found) → refusedWith (outcomeReply outcome value unseen) ≡ firstHolding ((18, badClamp outcome) ∷ (7, not (finiteVec value)) ∷ [])
 unfolding outcomeReply badClamp
-solution-says (Feasible best) value = valued-says value Nothing ∙ late-says false 0 value
-solution-says (Infeasible failure) value = valued-says value (At (failure .index)) ∙ late-says false 0 value
-solution-says (BadClamp plane) value = late-says true plane value
+solution-says (Feasible best) value unseen = valued-says value Nothing unseen ∙ late-says false 0 value
+solution-says (Infeasible failure) value unseen = valued-says value (At (failure .index)) unseen ∙ late-says false 0 value
+solution-says (BadClamp plane) value unseen = late-says true plane value
 
 -- the refusal is the one of the first condition that holds
 pub by-conditions : (request : Request) (neighbours : List Float) (k : ℕ) → refusedWith (velocityCall request neighbours k) ≡ firstHolding (velocityConditions request neighbours k)
@@ -121,7 +121,7 @@ by-conditions request neighbours k =
     let planes = planesOfCall request neighbours in
     let solution = solve planes (request .«max_speed») (request .preferred) in
     reply-says (checks request neighbours k) _ _ ((6, some (marked badPlane 0 planes)) ∷ (18, badClamp (solution .outcome)) ∷ (7, not (finiteVec (solution .value))) ∷ []) (checks-say request neighbours k)
-    (reply-says (planesVerdict planes) (replyOf solution) ((6, some (marked badPlane 0 planes)) ∷ []) _ (planes-say planes) (solution-says (solution .outcome) (solution .value)))
+    (reply-says (planesVerdict planes) (replyOf solution (firstUnseen request neighbours)) ((6, some (marked badPlane 0 planes)) ∷ []) _ (planes-say planes) (solution-says (solution .outcome) (solution .value) (firstUnseen request neighbours)))
 
 -- ---- the theorems
 

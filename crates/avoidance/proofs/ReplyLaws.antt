@@ -4,7 +4,6 @@ use mathlib.Core.Bool.{Bool, true, false, cond}
 use mathlib.Core.List.{List}
 use Prim.Native.Nat.{ℕ, _≤_}
 use lib.Dec.{eqb}
-use lib.ListN.{getD}
 use lib.Ieee.{Float}
 use borrow.Author.Tests.{eqb-true, ltb-false, le-ltb}
 use Rattle.vectors.proofs.Truth.{no-truth}
@@ -23,7 +22,7 @@ use Rattle.avoidance.specs.declared.Reply.the-variants.{Answered, Refuse
 use Rattle.avoidance.specs.Lent.{agentCount}
 use Rattle.avoidance.specs.Request.{fallbackPlace}
 use Rattle.avoidance.specs.Checks.{firstOf, ragged, tooMany, neededScratch, shortScratch, badFallback, checks}
-use Rattle.avoidance.specs.Reply.{isAnswered, number, placeOf, velocityOf, renamedRefusal, renamed}
+use Rattle.avoidance.specs.Reply.{isAnswered, number, placeOf, velocityOf, nameOf, renamedCourse, renamedRefusal, renamed}
 use Rattle.avoidance.specs.Velocity.{plannedReply, velocityCall}
 use Rattle.avoidance.proofs.Refusals.{refusedWith}
 
@@ -39,7 +38,7 @@ same-refusal : (names : List ℕ) (r : Refusal) → refusals.number (renamedRefu
 unfolding renamedRefusal
 same-refusal names r = go (eqb (refusals.number r) 6) refl
   where
-    go : (b : Bool) → eqb (refusals.number r) 6 ≡ b → refusals.number (cond b (PlaneNotFinite (getD names (refusals.placeOf r) 0)) r) ≡ refusals.number r
+    go : (b : Bool) → eqb (refusals.number r) 6 ≡ b → refusals.number (cond b (PlaneNotFinite (nameOf names (refusals.placeOf r))) r) ≡ refusals.number r
     go true is = sym (eqb-true _ _ is)
     go false is = refl
 
@@ -59,7 +58,7 @@ renamed-answered names (Answered course) = refl
 renamed-answered names (Refused r) = refl
 
 pub renamed-velocity : (names : List ℕ) (reply : Reply) → velocityOf (renamed names reply) ≡ velocityOf reply
-unfolding renamed
+unfolding renamed renamedCourse
 renamed-velocity names (Answered course) = refl
 renamed-velocity names (Refused r) = refl
 
@@ -69,13 +68,13 @@ unfolding renamed renamedRefusal
 renamed-place names (Answered course) other = refl
 renamed-place names (Refused r) other = go (eqb (refusals.number r) 6) refl
   where
-    go : (b : Bool) → eqb (refusals.number r) 6 ≡ b → refusals.placeOf (cond b (PlaneNotFinite (getD names (refusals.placeOf r) 0)) r) ≡ refusals.placeOf r
+    go : (b : Bool) → eqb (refusals.number r) 6 ≡ b → refusals.placeOf (cond b (PlaneNotFinite (nameOf names (refusals.placeOf r))) r) ≡ refusals.placeOf r
     go true is = absurd (other (eqb-true _ _ is))
     go false is = refl
 
 -- ---- scratch
 
-answered-passed : (v : Verdict) (reply : Reply) → isAnswered (settledBy v Refused reply) ≡ true → v ≡ verdict.Passed
+pub answered-passed : (v : Verdict) (reply : Reply) → isAnswered (settledBy v Refused reply) ≡ true → v ≡ verdict.Passed
 answered-passed verdict.Passed reply e = refl
 answered-passed (verdict.Refused r) reply e = no-truth e
 
@@ -110,6 +109,14 @@ module _ (request : Request) (neighbours : List Float) (k : ℕ) (passed : check
   -- the scratch is long enough
   pub passed-fits : neededScratch neighbours ≤ k
   passed-fits = ltb-false k (neededScratch neighbours) (does-not-hold (shortScratch neighbours k) (ShortScratch (neededScratch neighbours)) (long-and-rest .0))
+
+  -- the fallback is a direction
+  pub passed-fallback : badFallback (request .fallback) ≡ false
+  passed-fallback =
+      let unfinite = refusedAt (firstOf Finite request neighbours) NotFinite in
+      let outside = refusedAt (firstOf InRange request neighbours) OutOfRange in
+      let unfit = refusedIf (badFallback (request .fallback)) (BadFallback fallbackPlace) in
+      does-not-hold (badFallback (request .fallback)) (BadFallback fallbackPlace) (both-passed outside unfit (both-passed unfinite (outside ⊳ unfit) (long-and-rest .1) .1) .1)
 
   -- and any other that is passes too
   pub passed-again : (enough : ℕ) → neededScratch neighbours ≤ enough → checks request neighbours enough ≡ verdict.Passed

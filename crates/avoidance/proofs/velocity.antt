@@ -2,3 +2,4 @@
 pub mod Planes
 pub mod FitCalls
 pub mod Places
+pub mod Unseen

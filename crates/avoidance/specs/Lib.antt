@@ -6,4 +6,5 @@ pub mod Checks
 pub mod Reply
 pub mod Velocity
 pub mod Conditions
+pub mod Unseen
 pub mod parts

@@ -1,12 +1,14 @@
 -- `get_plane_for_neighbour`. What the Rust calls vo_normal, relative_velocity_projected_to_vo and inside_vo is a `Projection` here.
-use mathlib.Core.Bool.{Bool, true, _&&_, cond}
+-- The Rust does not say whether a normal could be made: `unseen` is document 02's [6].
+use mathlib.Core.Bool.{Bool, true, false, _&&_, cond}
 use lib.Ieee.{Float, neg}
 use Rattle.vectors.specs.declared.Vec3.{Vec3}
 use Rattle.vectors.specs.Number.{_⊕_, _⊖_, _⊗_, _⊘_, _<ᶠ_, _>ᶠ_, zero, one, finite}
-use Rattle.vectors.specs.Vec3.{zeroVec, _+ᵥ_, _-ᵥ_, _*ᵥ_, _/ᵥ_, dot, cross, lengthSquared, lengthRecip, normalizeOrZero}
+use Rattle.vectors.specs.Vec3.{zeroVec, _+ᵥ_, _-ᵥ_, _*ᵥ_, _/ᵥ_, dot, cross, lengthSquared, lengthRecip, normalizeOrZero, vectorOf, isZeros}
 use Rattle.vectors.specs.Root.{root}
 use Rattle.solver.specs.declared.Plane.{Plane}
 use Rattle.avoidance.specs.declared.Agent.{Agent}
+use Rattle.avoidance.specs.declared.NeighbourPlane.{NeighbourPlane}
 use Rattle.avoidance.specs.declared.neighbour.Relation.{Relation}
 use Rattle.avoidance.specs.declared.neighbour.Projection.{Projection}
 use Rattle.solver.specs.Plane.{signedDistance}
@@ -23,11 +25,13 @@ relationOf agent neighbour = record {
 unfoldable pub onSphere : Relation → Float → Vec3 → Vec3 → Projection
 onSphere relation horizon center fromCenter =
     let radius = relation .«radius_sum» ⊘ horizon in
-    let normal = normalizeOrZero fromCenter in
+    let normalized = normalizeOrZero fromCenter in
+    let normal = vectorOf normalized in
     record {
       normal = normal;
       value = normal *ᵥ radius +ᵥ center;
       inside = lengthSquared fromCenter <ᶠ radius ⊗ radius;
+      unseen = isZeros normalized;
     }
 
 -- t, at which velocity + t * position shows the cone's normal; the root of a negative is NaN here
@@ -43,13 +47,15 @@ coneTime relation =
 -- past it: onto the cone; a NaN gives a zero normal
 unfoldable pub onCone : Relation → Projection
 onCone relation =
-    let normal = normalizeOrZero (relation .velocity +ᵥ relation .position *ᵥ coneTime relation) in
+    let normalized = normalizeOrZero (relation .velocity +ᵥ relation .position *ᵥ coneTime relation) in
+    let normal = vectorOf normalized in
     let plane : Plane = record { point = zeroVec; normal = normal } in
     let distance = signedDistance plane (relation .velocity) in
     record {
       normal = normal;
       value = relation .velocity -ᵥ normal *ᵥ distance;
       inside = distance <ᶠ zero;
+      unseen = isZeros normalized;
     }
 
 unfoldable pub projectedFree : Relation → Float → Projection
@@ -67,6 +73,7 @@ collisionNormal fromCenter fallback =
     let scale = lengthRecip fromCenter in
     cond (finite scale && scale >ᶠ zero) (fromCenter *ᵥ scale) fallback
 
+-- there is a normal, if need be the caller's
 unfoldable pub projectedCollision : Relation → Float → Vec3 → Projection
 projectedCollision relation timeStep fallback =
     let center = relation .position /ᵥ timeStep in
@@ -76,6 +83,7 @@ projectedCollision relation timeStep fallback =
       normal = normal;
       value = normal *ᵥ radius +ᵥ center;
       inside = true;
+      unseen = false;
     }
 
 -- distance squared > radius sum squared is the free branch, equality collides
@@ -88,12 +96,15 @@ projected relation horizon timeStep fallback =
 unfoldable pub share : Float → Float → Bool → Float
 share own other inside = cond inside (own ⊘ (own ⊕ other)) one
 
-unfoldable pub planeFor : Agent → Agent → Float → Float → Vec3 → Plane
+unfoldable pub planeFor : Agent → Agent → Float → Float → Vec3 → NeighbourPlane
 planeFor agent neighbour horizon timeStep fallback =
     let relation = relationOf agent neighbour in
     let projection = projected relation horizon timeStep fallback in
     let u = projection .value -ᵥ relation .velocity in
     record {
-      point = agent .velocity +ᵥ u *ᵥ share (agent .responsibility) (neighbour .responsibility) (projection .inside);
-      normal = projection .normal;
+      plane = record {
+        point = agent .velocity +ᵥ u *ᵥ share (agent .responsibility) (neighbour .responsibility) (projection .inside);
+        normal = projection .normal;
+      };
+      unseen = projection .unseen;
     }

@@ -7,10 +7,11 @@ use lib.ListN.{getD}
 use Rattle.vectors.specs.declared.Vec3.{Vec3}
 use Rattle.vectors.specs.Vec3.{zeroVec}
 use Rattle.refusals.specs.declared.Found.{Found}
-use Rattle.refusals.specs.declared.Found.the-variants.{Nothing}
+use Rattle.refusals.specs.declared.Found.the-variants.{At, Nothing}
 use Rattle.refusals.specs.declared.Refusal.{Refusal}
 use Rattle.refusals.specs.declared.Refusal.the-variants.{PlaneNotFinite}
 use Rattle.refusals.specs.Refusal as refusal
+use Rattle.avoidance.specs.declared.Course.{Course}
 use Rattle.avoidance.specs.declared.Reply.{Reply}
 use Rattle.avoidance.specs.declared.Reply.the-variants.{Answered, Refused}
 
@@ -36,12 +37,28 @@ abbrev pub relaxedOf : Reply → Found
 relaxedOf (Answered course) = course .relaxed
 relaxedOf (Refused r) = Nothing
 
+-- the first neighbour that is unseen
+abbrev pub unseenOf : Reply → Found
+unseenOf (Answered course) = course .unseen
+unseenOf (Refused r) = Nothing
+
 -- ---- the same with neighbours by other names, which stand in a list in the neighbours' order
 
--- 6 names a neighbour
+unfoldable pub nameOf : List ℕ → ℕ → ℕ
+nameOf names neighbour = getD names neighbour 0
+
+-- an answer names one that is unseen
+abbrev pub renamedUnseen : List ℕ → Found → Found
+renamedUnseen names (At neighbour) = At (nameOf names neighbour)
+renamedUnseen names Nothing = Nothing
+
+unfoldable pub renamedCourse : List ℕ → Course → Course
+renamedCourse names course = record { velocity = course .velocity; relaxed = course .relaxed; unseen = renamedUnseen names (course .unseen) }
+
+-- 6 names one
 unfoldable pub renamedRefusal : List ℕ → Refusal → Refusal
-renamedRefusal names r = cond (eqb (refusal.number r) 6) (PlaneNotFinite (getD names (refusal.placeOf r) 0)) r
+renamedRefusal names r = cond (eqb (refusal.number r) 6) (PlaneNotFinite (nameOf names (refusal.placeOf r))) r
 
 unfoldable pub renamed : List ℕ → Reply → Reply
-renamed names (Answered course) = Answered course
+renamed names (Answered course) = Answered (renamedCourse names course)
 renamed names (Refused r) = Refused (renamedRefusal names r)

@@ -20,6 +20,7 @@ use Rattle.solver.specs.declared.Outcome.the-variants.{Feasible, Infeasible, Ba
 use Rattle.solver.specs.declared.Solution.{Solution}
 use Rattle.solver.specs.Lent.{perPlane, scratchFor, numbersOfPlanes}
 use Rattle.solver.specs.Solve.{solve}
+use Rattle.avoidance.specs.declared.NeighbourPlane.{NeighbourPlane}
 use Rattle.avoidance.specs.declared.Request.{Request}
 use Rattle.avoidance.specs.declared.Reply.{Reply}
 use Rattle.avoidance.specs.declared.Reply.the-variants.{Answered, Refused}
@@ -27,18 +28,36 @@ use Rattle.avoidance.specs.Lent.{perAgent, agentCount, agentAt}
 use Rattle.avoidance.specs.Neighbour.{planeFor}
 use Rattle.avoidance.specs.Checks.{checks}
 
--- ---- planes from neighbours
+-- ---- planes from neighbours, and which of these are unseen
 
-unfoldable pub planeOf : Request → List Float → Plane
+-- for the neighbour in the first numbers of a list
+unfoldable pub planeOf : Request → List Float → NeighbourPlane
 planeOf request xs = planeFor (request .agent) (agentAt xs) (request .horizon) (request .«time_step») (request .fallback)
 
--- the planes for the first n neighbours of a list of numbers
-unfoldable pub planesFrom : Request → ℕ → List Float → List Plane
-planesFrom request zero xs = []
-planesFrom request (suc n) xs = planeOf request xs ∷ planesFrom request n (drop perAgent xs)
+-- something made of each of the first n neighbours of a list of numbers
+unfoldable pub eachFrom : {A : Type 0} → (List Float → A) → ℕ → List Float → List A
+eachFrom f zero xs = []
+eachFrom f (suc n) xs = f xs ∷ eachFrom f n (drop perAgent xs)
+
+abbrev pub planesFrom : Request → ℕ → List Float → List Plane
+planesFrom request n xs = eachFrom (λ (neighbour : List Float). planeOf request neighbour .plane) n xs
+
+abbrev pub unseenFrom : Request → ℕ → List Float → List Bool
+unseenFrom request n xs = eachFrom (λ (neighbour : List Float). planeOf request neighbour .unseen) n xs
 
 unfoldable pub planesOfCall : Request → List Float → List Plane
 planesOfCall request neighbours = planesFrom request (agentCount neighbours) neighbours
+
+-- whether each neighbour is unseen
+unfoldable pub unseenOfCall : Request → List Float → List Bool
+unseenOfCall request neighbours = unseenFrom request (agentCount neighbours) neighbours
+
+-- the first that is
+abbrev pub isUnseen : ℕ → Bool → Bool
+isUnseen neighbour unseen = unseen
+
+abbrev pub firstUnseen : Request → List Float → Found
+firstUnseen request neighbours = firstBad isUnseen 0 (unseenOfCall request neighbours)
 
 unfoldable pub finitePlane : Plane → Bool
 finitePlane plane = finiteVec (plane .point) && finiteVec (plane .normal)
@@ -50,18 +69,18 @@ badPlane index plane = not (finitePlane plane)
 -- ---- the answer
 
 -- a value that is not finite is no velocity
-unfoldable pub answeredWith : Vec3 → Found → Reply
-answeredWith value relaxed = cond (finiteVec value) (Answered (record { velocity = plusZeros value; relaxed = relaxed })) (Refused refusal.NoVelocity)
+unfoldable pub answeredWith : Vec3 → Found → Found → Reply
+answeredWith value relaxed unseen = cond (finiteVec value) (Answered (record { velocity = plusZeros value; relaxed = relaxed; unseen = unseen })) (Refused refusal.NoVelocity)
 
 -- A bad clamp is refused with the plane that was being solved on. It is never a turned one, whose place would be that of the plane it
 -- was turned from: the optimum is a direction there, and then there is no bad clamp (`three-d-never-bad`, the solver's proofs/NoBadClamp.antt).
-unfoldable pub outcomeReply : Outcome → Vec3 → Reply
-outcomeReply (Feasible best) value = answeredWith value Nothing
-outcomeReply (Infeasible failure) value = answeredWith value (At (failure .index))
-outcomeReply (BadClamp plane) value = Refused (refusal.BadClamp plane)
+unfoldable pub outcomeReply : Outcome → Vec3 → Found → Reply
+outcomeReply (Feasible best) value unseen = answeredWith value Nothing unseen
+outcomeReply (Infeasible failure) value unseen = answeredWith value (At (failure .index)) unseen
+outcomeReply (BadClamp plane) value unseen = Refused (refusal.BadClamp plane)
 
-unfoldable pub replyOf : Solution → Reply
-replyOf solution = outcomeReply (solution .outcome) (solution .value)
+unfoldable pub replyOf : Solution → Found → Reply
+replyOf solution unseen = outcomeReply (solution .outcome) (solution .value) unseen
 
 -- the first plane that is not finite refuses the call
 unfoldable pub planesVerdict : List Plane → Verdict
@@ -71,7 +90,7 @@ planesVerdict planes = refusedAt (firstBad badPlane 0 planes) refusal.PlaneNotFi
 unfoldable pub plannedReply : Request → List Float → Reply
 plannedReply request neighbours =
     let planes = planesOfCall request neighbours in
-    settledBy (planesVerdict planes) Refused (replyOf (solve planes (request .«max_speed») (request .preferred)))
+    settledBy (planesVerdict planes) Refused (replyOf (solve planes (request .«max_speed») (request .preferred)) (firstUnseen request neighbours))
 
 unfoldable pub velocityCall : Request → List Float → ℕ → Reply
 velocityCall request neighbours scratchLength = settledBy (checks request neighbours scratchLength) Refused (plannedReply request neighbours)

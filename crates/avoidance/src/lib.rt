@@ -10,6 +10,7 @@ pub mod velocity;
 
 use refusals::Found;
 use refusals::Refusal;
+use solver::Plane;
 use vectors::Vec3;
 
 // At most so many neighbours.
@@ -76,10 +77,19 @@ pub enum Asked {
     InRange,
 }
 
-// The velocity to take, and the plane from which it is relaxed, if it is.
+// The half-space of velocities that avoid a neighbour, and whether the neighbour is unseen: head-on past the
+// tangent ring no normal can be made, it is zero, and the plane keeps no velocity out.
+pub struct NeighbourPlane {
+    pub plane: Plane,
+    pub unseen: bool,
+}
+
+// The velocity to take, the plane from which it is relaxed, if it is, and the first neighbour that is
+// unseen, if one is.
 pub struct Course {
     pub velocity: Vec3,
     pub relaxed: Found,
+    pub unseen: Found,
 }
 
 // What a velocity call answers.

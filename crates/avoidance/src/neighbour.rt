@@ -3,6 +3,7 @@
 ghost use mathlib.Core.Path.{_≡_};
 ghost use Rattle.avoidance.specs.Neighbour.{onSphere, coneTime, onCone, projectedFree, collisionNormal, projectedCollision, projected, share, planeFor};
 use super::Agent;
+use super::NeighbourPlane;
 use solver::Plane;
 use vectors::Vec3;
 use vectors::number::is_finite;
@@ -16,12 +17,13 @@ pub struct Relation {
     pub radius_sum: f32,
 }
 
-// The relative velocity projected to the velocity obstacle, the obstacle's normal there, and whether
-// the relative velocity lies inside it.
+// The relative velocity projected to the velocity obstacle, the obstacle's normal there, whether the
+// relative velocity lies inside it, and whether there was no normal to be made.
 pub struct Projection {
     pub normal: Vec3,
     pub value: Vec3,
     pub inside: bool,
+    pub unseen: bool,
 }
 
 // Onto the cut-off sphere.
@@ -29,11 +31,13 @@ fn on_sphere(relation: Relation, horizon: f32, center: Vec3, from_center: Vec3) 
     ensures { λ r. ⌜ r ≡ onSphere relation horizon center «from_center» ⌝ }
 {
     let radius = relation.radius_sum / horizon;
-    let normal = from_center.normalize_or_zero();
+    let normalized = from_center.normalize_or_zero();
+    let normal = normalized.vector();
     Projection {
         normal,
         value: normal.mul(radius).add(center),
         inside: from_center.length_squared() < radius * radius,
+        unseen: normalized.is_zeros(),
     }
 }
 
@@ -62,10 +66,11 @@ fn on_cone(relation: Relation) -> Projection
     ensures { λ r. ⌜ r ≡ onCone relation ⌝ }
 {
     let t = cone_time(relation);
-    let normal = relation
+    let normalized = relation
         .velocity
         .add(relation.position.mul(t))
         .normalize_or_zero();
+    let normal = normalized.vector();
     let plane = Plane {
         point: Vec3::zero(),
         normal,
@@ -75,6 +80,7 @@ fn on_cone(relation: Relation) -> Projection
         normal,
         value: relation.velocity.sub(normal.mul(distance)),
         inside: distance < 0.0,
+        unseen: normalized.is_zeros(),
     }
 }
 
@@ -111,7 +117,7 @@ fn collision_normal(from_center: Vec3, fallback: Vec3) -> Vec3
     }
 }
 
-// Collision: onto the cut-off sphere at the end of the step.
+// Collision: onto the cut-off sphere at the end of the step. There is a normal, if need be the caller's.
 fn projected_collision(relation: Relation, time_step: f32, fallback: Vec3) -> Projection
     ensures { λ r. ⌜ r ≡ projectedCollision relation «time_step» fallback ⌝ }
 {
@@ -122,6 +128,7 @@ fn projected_collision(relation: Relation, time_step: f32, fallback: Vec3) -> Pr
         normal,
         value: normal.mul(radius).add(center),
         inside: true,
+        unseen: false,
     }
 }
 
@@ -142,14 +149,14 @@ fn share(own: f32, other: f32, inside: bool) -> f32
     if inside { own / (own + other) } else { 1.0 }
 }
 
-// The half-space of velocities that avoid `neighbour`.
+// The half-space of velocities that avoid `neighbour`, and whether that is unseen.
 pub fn plane_for(
     agent: Agent,
     neighbour: Agent,
     horizon: f32,
     time_step: f32,
     fallback: Vec3,
-) -> Plane
+) -> NeighbourPlane
     ensures { λ r. ⌜ r ≡ planeFor agent neighbour horizon «time_step» fallback ⌝ }
 {
     let relation = Relation {
@@ -165,8 +172,10 @@ pub fn plane_for(
     );
     let way = projection.value.sub(relation.velocity).mul(part);
     let normal = projection.normal;
-    Plane {
+    let plane = Plane {
         point: agent.velocity.add(way),
         normal,
-    }
+    };
+    let unseen = projection.unseen;
+    NeighbourPlane { plane, unseen }
 }

@@ -1,7 +1,8 @@
 // What a velocity call answers: document 01's number, place and velocity of each reply. The definitions are in
 // `specs/Reply.antt`.
 ghost use mathlib.Core.Path.{_≡_};
-ghost use Rattle.avoidance.specs.Reply.{number, placeOf, velocityOf, isAnswered, relaxedOf, renamedRefusal, renamed};
+ghost use Rattle.avoidance.specs.Reply.{number, placeOf, velocityOf, isAnswered, relaxedOf, unseenOf, nameOf, renamedUnseen, renamedCourse, renamedRefusal, renamed};
+use super::Course;
 use super::Reply;
 use refusals::Found;
 use refusals::Refusal;
@@ -10,6 +11,41 @@ use vectors::Vec3;
 // The number of the refusal that names a neighbour.
 const NAMES_A_NEIGHBOUR: u32 = 6;
 
+// The name that stands in the list for a neighbour.
+fn name_of(names: &[usize], neighbour: usize) -> usize
+    ensures { λ r. ⌜ r ≡ nameOf (now (names .entry)) neighbour ⌝ }
+{
+    if neighbour < names.len() {
+        names[neighbour]
+    } else {
+        0
+    }
+}
+
+// The neighbour that is unseen, by its name.
+fn renamed_unseen(unseen: Found, names: &[usize]) -> Found
+    ensures { λ r. ⌜ r ≡ renamedUnseen (now (names .entry)) unseen ⌝ }
+{
+    match unseen {
+        Found::At(neighbour) => Found::At(name_of(names, neighbour)),
+        Found::Nothing => Found::Nothing,
+    }
+}
+
+fn renamed_course(course: Course, names: &[usize]) -> Course
+    ensures { λ r. ⌜ r ≡ renamedCourse (now (names .entry)) course ⌝ }
+{
+    let velocity = course.velocity;
+    let relaxed = course.relaxed;
+    let neighbour = course.unseen;
+    let unseen = renamed_unseen(neighbour, names);
+    Course {
+        velocity,
+        relaxed,
+        unseen,
+    }
+}
+
 // A refusal that names a neighbour, with the name that stands in the list for it.
 fn renamed_refusal(refusal: Refusal, names: &[usize]) -> Refusal
     ensures { λ r. ⌜ r ≡ renamedRefusal (now (names .entry)) refusal ⌝ }
@@ -17,13 +53,9 @@ fn renamed_refusal(refusal: Refusal, names: &[usize]) -> Refusal
     if refusal.number() != NAMES_A_NEIGHBOUR {
         return refusal;
     }
-    let neighbour = refusal.place();
-    let name = if neighbour < names.len() {
-        names[neighbour]
-    } else {
-        0
-    };
-    Refusal::PlaneNotFinite { neighbour: name }
+    Refusal::PlaneNotFinite {
+        neighbour: name_of(names, refusal.place()),
+    }
 }
 
 impl Reply {
@@ -67,6 +99,16 @@ impl Reply {
         }
     }
 
+    // The first neighbour that is unseen, if one is.
+    pub fn unseen(self) -> Found
+        ensures { λ r. ⌜ r ≡ unseenOf self ⌝ }
+    {
+        match self {
+            Reply::Answered(course) => course.unseen,
+            Reply::Refused(_) => Found::Nothing,
+        }
+    }
+
     // Whether it has a velocity to take.
     pub fn is_answered(self) -> bool
         ensures { λ r. ⌜ r ≡ isAnswered self ⌝ }
@@ -82,7 +124,7 @@ impl Reply {
         ensures { λ r. ⌜ r ≡ renamed (now (names .entry)) self ⌝ }
     {
         match self {
-            Reply::Answered(_) => self,
+            Reply::Answered(course) => Reply::Answered(renamed_course(course, names)),
             Reply::Refused(refusal) => Reply::Refused(renamed_refusal(refusal, names)),
         }
     }

@@ -5,10 +5,11 @@ ghost use Prim.Native.Nat.{_*_, _≤_, _<_};
 ghost use lib.ListN.{length, drop};
 ghost use Rattle.solver.specs.Lent.{scratchFor};
 ghost use Rattle.avoidance.specs.Lent.{perAgent, agentCount};
-ghost use Rattle.avoidance.specs.Velocity.{planeOf, finitePlane, planesFrom, planesOfCall, answeredWith, replyOf, plannedReply, plannedScratch, velocityCall, scratchAfter};
-ghost use Rattle.avoidance.specs.parts.Velocity.{Written};
+ghost use Rattle.avoidance.specs.Velocity.{planeOf, finitePlane, planesFrom, unseenFrom, planesOfCall, answeredWith, replyOf, plannedReply, plannedScratch, velocityCall, scratchAfter};
+ghost use Rattle.avoidance.specs.parts.Velocity.{noted, Written};
 use super::AGENT_NUMBERS;
 use super::Course;
+use super::NeighbourPlane;
 use super::Reply;
 use super::Request;
 use super::checks::checks;
@@ -26,6 +27,13 @@ use solver::lent::write_plane;
 use solver::solve::solve;
 use vectors::Vec3;
 
+// What making the planes came to: all are finite, with the first neighbour that is unseen, if one is; or the
+// neighbour whose plane is not.
+pub enum Made {
+    Finite(Found),
+    NotFinite(usize),
+}
+
 fn is_finite_plane(plane: Plane) -> bool
     ensures { λ r. ⌜ r ≡ finitePlane plane ⌝ }
 {
@@ -37,7 +45,7 @@ fn is_finite_plane(plane: Plane) -> bool
 }
 
 // The plane for the neighbour at `index`.
-fn plane_of(request: Request, neighbours: &[f32], index: usize) -> Plane
+fn plane_of(request: Request, neighbours: &[f32], index: usize) -> NeighbourPlane
     requires { ⌜ index < agentCount (now neighbours) ⌝ }
     ensures { λ r. ⌜ r ≡ planeOf request (drop (perAgent * index) (now (neighbours .entry))) ⌝ }
 {
@@ -51,43 +59,65 @@ fn plane_of(request: Request, neighbours: &[f32], index: usize) -> Plane
     )
 }
 
+// What was found before, or else the neighbour at `index`, where it is unseen.
+fn noted(found: Found, unseen: bool, index: usize) -> Found
+    ensures { λ r. ⌜ r ≡ noted found unseen index ⌝ }
+{
+    match found {
+        Found::At(earlier) => Found::At(earlier),
+        Found::Nothing => {
+            if unseen {
+                Found::At(index)
+            } else {
+                Found::Nothing
+            }
+        }
+    }
+}
+
 // Writes the plane for each neighbour to the beginning of scratch, up to the first that is not finite.
-fn write_planes(scratch: &mut [f32], request: Request, neighbours: &[f32]) -> Found
+fn write_planes(scratch: &mut [f32], request: Request, neighbours: &[f32]) -> Made
     requires { ⌜ scratchFor (agentCount (now neighbours)) ≤ length (now scratch) ⌝ }
-    ensures { λ r. ⌜ Written (agentCount (now (neighbours .entry))) (planesFrom request (agentCount (now (neighbours .entry))) (now (neighbours .entry))) (now (scratch .entry)) (now (scratch .exit)) r ⌝ }
+    ensures { λ r. ⌜ Written (agentCount (now (neighbours .entry))) (planesFrom request (agentCount (now (neighbours .entry))) (now (neighbours .entry))) (unseenFrom request (agentCount (now (neighbours .entry))) (now (neighbours .entry))) (now (scratch .entry)) (now (scratch .exit)) r ⌝ }
 {
     let count = neighbours.len() / AGENT_NUMBERS;
+    let mut unseen = Found::Nothing;
     let mut index = 0;
     while index < count {
-        let plane = plane_of(request, neighbours, index);
-        if !is_finite_plane(plane) {
-            return Found::At(index);
+        let made = plane_of(request, neighbours, index);
+        if !is_finite_plane(made.plane) {
+            return Made::NotFinite(index);
         }
-        write_plane(scratch, index, plane);
+        write_plane(scratch, index, made.plane);
+        unseen = noted(unseen, made.unseen, index);
         index += 1;
     }
-    Found::Nothing
+    Made::Finite(unseen)
 }
 
 // An answer with a value as the velocity, where it is one.
-fn answered_with(value: Vec3, relaxed: Found) -> Reply
-    ensures { λ r. ⌜ r ≡ answeredWith value relaxed ⌝ }
+fn answered_with(value: Vec3, relaxed: Found, unseen: Found) -> Reply
+    ensures { λ r. ⌜ r ≡ answeredWith value relaxed unseen ⌝ }
 {
     if !value.is_finite() {
         return Reply::Refused(Refusal::NoVelocity);
     }
     let velocity = value.plus_zeros();
-    Reply::Answered(Course { velocity, relaxed })
+    Reply::Answered(Course {
+        velocity,
+        relaxed,
+        unseen,
+    })
 }
 
-fn reply_of(solution: Solution) -> Reply
-    ensures { λ r. ⌜ r ≡ replyOf solution ⌝ }
+fn reply_of(solution: Solution, unseen: Found) -> Reply
+    ensures { λ r. ⌜ r ≡ replyOf solution unseen ⌝ }
 {
     let value = solution.value;
     let outcome = solution.outcome;
     match outcome {
-        Outcome::Feasible(_) => answered_with(value, Found::Nothing),
-        Outcome::Infeasible(failure) => answered_with(value, Found::At(failure.index)),
+        Outcome::Feasible(_) => answered_with(value, Found::Nothing, unseen),
+        Outcome::Infeasible(failure) => answered_with(value, Found::At(failure.index), unseen),
         Outcome::BadClamp(plane) => Reply::Refused(Refusal::BadClamp { plane }),
     }
 }
@@ -98,11 +128,15 @@ fn planned(request: Request, neighbours: &[f32], scratch: &mut [f32]) -> Reply
     ensures answer { λ r. ⌜ r ≡ plannedReply request (now (neighbours .entry)) ⌝ }
     ensures scratch { λ r. ⌜ now (scratch .exit) ≡ plannedScratch r (agentCount (now (neighbours .entry))) (planesOfCall request (now (neighbours .entry))) (now (scratch .entry)) ⌝ }
 {
-    if let Found::At(neighbour) = write_planes(scratch, request, neighbours) {
-        clear(scratch);
-        return Reply::Refused(Refusal::PlaneNotFinite { neighbour });
-    }
-    let reply = reply_of(solve(scratch, request.max_speed, request.preferred));
+    let unseen = match write_planes(scratch, request, neighbours) {
+        Made::Finite(unseen) => unseen,
+        Made::NotFinite(neighbour) => {
+            clear(scratch);
+            return Reply::Refused(Refusal::PlaneNotFinite { neighbour });
+        }
+    };
+    let solution = solve(scratch, request.max_speed, request.preferred);
+    let reply = reply_of(solution, unseen);
     if let Reply::Refused(_) = reply {
         clear(scratch);
     }

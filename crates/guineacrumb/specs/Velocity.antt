@@ -10,7 +10,7 @@ use Rattle.refusals.specs.declared.Found.{Found}
 use Rattle.refusals.specs.declared.Found.the-variants.{At, Nothing}
 use Rattle.avoidance.specs.declared.Reply.{Reply}
 use Rattle.avoidance.specs.Request.{perRequest, requestAt}
-use Rattle.avoidance.specs.Reply.{number, placeOf, velocityOf, relaxedOf}
+use Rattle.avoidance.specs.Reply.{number, placeOf, velocityOf, relaxedOf, unseenOf}
 use Rattle.avoidance.specs.Velocity.{velocityCall, scratchAfter}
 
 -- ---- lengths
@@ -28,17 +28,13 @@ fits request velocity = eqb (length request) perRequest && eqb (length velocity)
 unfoldable pub componentsOf : Vec3 → List Float
 componentsOf v = v .x ∷ v .y ∷ v .z ∷ []
 
--- where no plane was relaxed
-abbrev pub noPlane : ℕ
-noPlane = 0xFFFF_FFFF_FFFF_FFFF
+-- where there is no plane, and no neighbour, to name
+abbrev pub none : ℕ
+none = 0xFFFF_FFFF_FFFF_FFFF
 
-unfoldable pub planeOr : Found → ℕ
-planeOr (At plane) = plane
-planeOr Nothing = noPlane
-
--- the plane from which an answer is relaxed
-abbrev pub relaxedFrom : Reply → ℕ
-relaxedFrom reply = planeOr (relaxedOf reply)
+abbrev pub orNone : Found → ℕ
+orNone (At index) = index
+orNone Nothing = none
 
 -- ---- the answer, and what is left in what was lent: as it was where the lengths do not fit
 
@@ -64,4 +60,8 @@ placeLeft request neighbours scratch velocity place =
 
 unfoldable pub relaxedLeft : List Float → List Float → List Float → List Float → ℕ → ℕ
 relaxedLeft request neighbours scratch velocity relaxed =
-    cond (fits request velocity) (relaxedFrom (replyTo request neighbours scratch)) relaxed
+    cond (fits request velocity) (orNone (relaxedOf (replyTo request neighbours scratch))) relaxed
+
+unfoldable pub unseenLeft : List Float → List Float → List Float → List Float → ℕ → ℕ
+unseenLeft request neighbours scratch velocity unseen =
+    cond (fits request velocity) (orNone (unseenOf (replyTo request neighbours scratch))) unseen

@@ -3,9 +3,8 @@
 ghost use mathlib.Core.Path.{_≡_};
 ghost use lib.ListN.{length};
 ghost use Rattle.vectors.specs.Root.{root};
-ghost use Rattle.guineacrumb.specs.Velocity.{componentsOf, relaxedFrom, answer, scratchLeft, velocityLeft, placeLeft, relaxedLeft};
+ghost use Rattle.guineacrumb.specs.Velocity.{componentsOf, orNone, answer, scratchLeft, velocityLeft, placeLeft, relaxedLeft, unseenLeft};
 use avoidance::ReadRequest;
-use avoidance::Reply;
 use avoidance::Request;
 use refusals::Found;
 use vectors::Vec3;
@@ -16,8 +15,8 @@ const BAD_LENGTHS: u32 = 255;
 // The numbers of a velocity.
 const VELOCITY_NUMBERS: usize = 3;
 
-// What stands for no plane.
-const NO_PLANE: u64 = 0xFFFF_FFFF_FFFF_FFFF;
+// What stands for no plane, and for no neighbour.
+const NONE: u64 = 0xFFFF_FFFF_FFFF_FFFF;
 
 // The nearest binary32 to the root of x.
 #[no_mangle]
@@ -27,13 +26,12 @@ pub extern "C" fn guineacrumb_root(x: f32) -> f32
     vectors::root::root(x)
 }
 
-// The plane from which an answer is relaxed.
-fn relaxed_from(reply: Reply) -> u64
-    ensures { λ r. ⌜ r ≡ relaxedFrom reply ⌝ }
+fn or_none(found: Found) -> u64
+    ensures { λ r. ⌜ r ≡ orNone found ⌝ }
 {
-    match reply.relaxed() {
-        Found::At(plane) => plane as u64,
-        Found::Nothing => NO_PLANE,
+    match found {
+        Found::At(index) => index as u64,
+        Found::Nothing => NONE,
     }
 }
 
@@ -46,8 +44,8 @@ fn write(vector: &mut [f32], v: Vec3)
     vector[2] = v.z;
 }
 
-// The velocity nearest to the preferred one that avoids the neighbours, with its place and the plane
-// from which it is relaxed. The request's numbers stand at document 01's places.
+// The velocity nearest to the preferred one that avoids the neighbours, with its place, the plane from which
+// it is relaxed and the first neighbour that is unseen. The request's numbers stand at document 01's places.
 #[no_mangle]
 pub extern "C" fn guineacrumb_velocity(
     request: &[f32],
@@ -56,12 +54,14 @@ pub extern "C" fn guineacrumb_velocity(
     velocity: &mut [f32],
     place: &mut u64,
     relaxed: &mut u64,
+    unseen: &mut u64,
 ) -> u32
     ensures answer { λ r. ⌜ r ≡ answer (now (request .entry)) (now (neighbours .entry)) (now (scratch .entry)) (now (velocity .entry)) ⌝ }
     ensures scratch { λ _. ⌜ now (scratch .exit) ≡ scratchLeft (now (request .entry)) (now (neighbours .entry)) (now (scratch .entry)) (now (velocity .entry)) ⌝ }
     ensures velocity { λ _. ⌜ now (velocity .exit) ≡ velocityLeft (now (request .entry)) (now (neighbours .entry)) (now (scratch .entry)) (now (velocity .entry)) ⌝ }
     ensures place { λ _. ⌜ now (place .exit) ≡ placeLeft (now (request .entry)) (now (neighbours .entry)) (now (scratch .entry)) (now (velocity .entry)) (now (place .entry)) ⌝ }
     ensures relaxed { λ _. ⌜ now (relaxed .exit) ≡ relaxedLeft (now (request .entry)) (now (neighbours .entry)) (now (scratch .entry)) (now (velocity .entry)) (now (relaxed .entry)) ⌝ }
+    ensures unseen { λ _. ⌜ now (unseen .exit) ≡ unseenLeft (now (request .entry)) (now (neighbours .entry)) (now (scratch .entry)) (now (velocity .entry)) (now (unseen .entry)) ⌝ }
 {
     if velocity.len() != VELOCITY_NUMBERS {
         return BAD_LENGTHS;
@@ -72,6 +72,7 @@ pub extern "C" fn guineacrumb_velocity(
     let reply = avoidance::velocity::velocity(asked, neighbours, scratch);
     write(velocity, reply.velocity());
     *place = reply.place() as u64;
-    *relaxed = relaxed_from(reply);
+    *relaxed = or_none(reply.relaxed());
+    *unseen = or_none(reply.unseen());
     reply.number()
 }

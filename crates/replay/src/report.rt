@@ -56,18 +56,33 @@ fn say_velocity(velocity: Vec3) {
     say_float(velocity.z);
 }
 
-// `velocity X Y Z free` or `velocity X Y Z relaxed K`
-fn say_course(course: Course) {
-    say_velocity(course.velocity);
-    let relaxed = course.relaxed;
+// ` free` or ` relaxed K`
+fn say_relaxed(relaxed: Found) {
     match relaxed {
-        Found::Nothing => say(b" free\n"),
+        Found::Nothing => say(b" free"),
         Found::At(plane) => {
             say(b" relaxed ");
             say_number(plane);
-            say(b"\n");
         }
     }
+}
+
+// ` unseen J`, or nothing
+fn say_unseen(unseen: Found) {
+    if let Found::At(agent) = unseen {
+        say(b" unseen ");
+        say_number(agent);
+    }
+}
+
+// `velocity X Y Z free` or `velocity X Y Z relaxed K`, and ` unseen J` where an agent is named
+fn say_course(course: Course) {
+    say_velocity(course.velocity);
+    let relaxed = course.relaxed;
+    say_relaxed(relaxed);
+    let unseen = course.unseen;
+    say_unseen(unseen);
+    say(b"\n");
 }
 
 fn say_reply(reply: Reply) {

@@ -1,8 +1,10 @@
 -- Vectors of three: document 01's lines on glam, one IEEE 754 operation at a time and in this order.
-use mathlib.Core.Bool.{Bool, _&&_, cond}
+use mathlib.Core.Bool.{Bool, true, false, _&&_, cond}
 use lib.Dec.{T}
-use lib.Ieee.{Float, binary32, fits}
+use lib.Ieee.{Float, binary32, fits, eq}
 use Rattle.vectors.specs.declared.Vec3.{Vec3}
+use Rattle.vectors.specs.declared.Normalized.{Normalized}
+use Rattle.vectors.specs.declared.Normalized.the-variants.{Scaled, Zeros}
 use Rattle.vectors.specs.Number.{_⊕_, _⊖_, _⊗_, _⊘_, _>ᶠ_, zero, one, finite, plusZero}
 use Rattle.vectors.specs.Root.{root}
 
@@ -50,13 +52,26 @@ unfoldable pub normalize : Vec3 → Vec3
 unfolding lengthRecip _*ᵥ_
 normalize v = v *ᵥ lengthRecip v
 
-unfoldable pub normalizeOrZero : Vec3 → Vec3
-unfolding lengthRecip finite _*ᵥ_ zeroVec
-normalizeOrZero v = let s = lengthRecip v in cond (finite s && s >ᶠ zero) (v *ᵥ s) zeroVec
+-- glam's gives the vector alone: `vectorOf` of this
+unfoldable pub normalizeOrZero : Vec3 → Normalized
+unfolding lengthRecip finite _*ᵥ_
+normalizeOrZero v = let s = lengthRecip v in cond (finite s && s >ᶠ zero) (Scaled (v *ᵥ s)) Zeros
+
+abbrev pub vectorOf : Normalized → Vec3
+vectorOf (Scaled v) = v
+vectorOf Zeros = zeroVec
+
+abbrev pub isZeros : Normalized → Bool
+isZeros (Scaled v) = false
+isZeros Zeros = true
 
 unfoldable pub distanceSquared : Vec3 → Vec3 → Float
 unfolding _-ᵥ_ lengthSquared
 distanceSquared u v = lengthSquared (u -ᵥ v)
+
+-- every component is a zero, of either sign
+abbrev pub allZero : Vec3 → Bool
+allZero v = eq (v .x) zero && eq (v .y) zero && eq (v .z) zero
 
 -- every component is finite
 unfoldable pub finiteVec : Vec3 → Bool

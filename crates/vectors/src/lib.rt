@@ -11,6 +11,13 @@ pub struct Vec3 {
     pub z: f32,
 }
 
+// What normalising with the zero fallback gives: the vector scaled to length 1, or three +0s where it can't be
+// scaled.
+pub enum Normalized {
+    Scaled(Vec3),
+    Zeros,
+}
+
 // What a clamp answers: the value, or that its lower bound is not `<=` its upper, where Rust panics.
 pub enum Clamped {
     Value(f32),

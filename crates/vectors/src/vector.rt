@@ -1,8 +1,10 @@
 // Vectors of three, with each operation that the three Rust files use of glam's `Vec3`, under glam's
-// names (its operators `+ - * /` are `add`, `sub`, `mul` and `div`); `plus_zeros` alone is not glam's.
+// names (its operators `+ - * /` are `add`, `sub`, `mul` and `div`). `plus_zeros` is not glam's, and of
+// `normalize_or_zero` glam gives the vector alone.
 // The definitions, in `specs/Vec3.antt`, are document 01's lines on glam.
 ghost use mathlib.Core.Path.{_≡_};
-ghost use Rattle.vectors.specs.Vec3.{zeroVec, _+ᵥ_, _-ᵥ_, _*ᵥ_, _/ᵥ_, dot, cross, lengthSquared, length, lengthRecip, normalize, normalizeOrZero, distanceSquared, finiteVec, plusZeros};
+ghost use Rattle.vectors.specs.Vec3.{zeroVec, _+ᵥ_, _-ᵥ_, _*ᵥ_, _/ᵥ_, dot, cross, lengthSquared, length, lengthRecip, normalize, normalizeOrZero, vectorOf, isZeros, distanceSquared, finiteVec, plusZeros};
+use super::Normalized;
 use super::Vec3;
 use super::number::is_finite;
 use super::number::plus_zero;
@@ -102,20 +104,20 @@ impl Vec3 {
         self.mul(self.length_recip())
     }
 
-    // The vector scaled to length 1, or three +0s where the reciprocal of its length is not both
-    // finite and above 0.
-    pub fn normalize_or_zero(self) -> Vec3
+    // The vector scaled to length 1, or zeros where the reciprocal of its length is not both finite and
+    // above 0.
+    pub fn normalize_or_zero(self) -> Normalized
         ensures { λ r. ⌜ r ≡ normalizeOrZero self ⌝ }
     {
         let scale = self.length_recip();
         if is_finite(scale) {
             if scale > 0.0 {
-                self.mul(scale)
+                Normalized::Scaled(self.mul(scale))
             } else {
-                Vec3::zero()
+                Normalized::Zeros
             }
         } else {
-            Vec3::zero()
+            Normalized::Zeros
         }
     }
 
@@ -148,6 +150,26 @@ impl Vec3 {
             x: plus_zero(self.x),
             y: plus_zero(self.y),
             z: plus_zero(self.z),
+        }
+    }
+}
+
+impl Normalized {
+    pub fn vector(self) -> Vec3
+        ensures { λ r. ⌜ r ≡ vectorOf self ⌝ }
+    {
+        match self {
+            Normalized::Scaled(vector) => vector,
+            Normalized::Zeros => Vec3::zero(),
+        }
+    }
+
+    pub fn is_zeros(self) -> bool
+        ensures { λ r. ⌜ r ≡ isZeros self ⌝ }
+    {
+        match self {
+            Normalized::Scaled(_) => false,
+            Normalized::Zeros => true,
         }
     }
 }

@@ -7,14 +7,16 @@ use lines::Fields;
 use refusals::Found;
 use vectors::number::to_word;
 
-// The plane of an answer that is not relaxed. No line can ask for it as a plane.
-const NO_PLANE: usize = usize::MAX;
+// The plane of an answer that is not relaxed, and the neighbour of one that names none. No line can ask for it as
+// one of these.
+pub(crate) const NONE: usize = usize::MAX;
 
 // Of a refusal the velocity is three +0s.
 pub struct Answer {
     pub number: usize,
     pub place: usize,
     pub plane: usize,
+    pub unseen: usize,
     pub x: u32,
     pub y: u32,
     pub z: u32,
@@ -29,7 +31,8 @@ pub(crate) fn refusal(number: usize, place: usize) -> Answer {
     Answer {
         number,
         place,
-        plane: NO_PLANE,
+        plane: NONE,
+        unseen: NONE,
         x: 0,
         y: 0,
         z: 0,
@@ -41,6 +44,7 @@ fn answered(plane: usize, words: [u32; 8]) -> Answer {
         number: 0,
         place: 0,
         plane,
+        unseen: NONE,
         x: words[0],
         y: words[1],
         z: words[2],
@@ -59,18 +63,25 @@ fn refused(number: usize, place: usize) -> Wanted {
 pub(crate) fn read_wanted(key: Key, fields: Fields) -> Wanted {
     let words = fields.words;
     match key {
-        Key::Free => Wanted::Is(answered(NO_PLANE, words)),
+        Key::Free => Wanted::Is(answered(NONE, words)),
         Key::Relaxed => Wanted::Is(answered(fields.counts[0], words)),
         Key::Refused => refused(fields.counts[0], fields.counts[1]),
         _ => Wanted::Malformed,
     }
 }
 
-fn plane_of(reply: Reply) -> usize {
-    match reply.relaxed() {
-        Found::At(plane) => plane,
-        Found::Nothing => NO_PLANE,
+fn or_none(found: Found) -> usize {
+    match found {
+        Found::At(index) => index,
+        Found::Nothing => NONE,
     }
+}
+
+// The answer with the neighbour that its case names.
+pub(crate) fn naming(wanted: Answer, unseen: usize) -> Answer {
+    let mut wanted = wanted;
+    wanted.unseen = unseen;
+    wanted
 }
 
 pub(crate) fn answer_of(reply: Reply) -> Answer {
@@ -78,7 +89,8 @@ pub(crate) fn answer_of(reply: Reply) -> Answer {
     Answer {
         number: reply.number() as usize,
         place: reply.place(),
-        plane: plane_of(reply),
+        plane: or_none(reply.relaxed()),
+        unseen: or_none(reply.unseen()),
         x: to_word(velocity.x),
         y: to_word(velocity.y),
         z: to_word(velocity.z),
@@ -95,6 +107,9 @@ pub(crate) fn is_same(a: Answer, b: Answer) -> bool
         return false;
     }
     if a.plane != b.plane {
+        return false;
+    }
+    if a.unseen != b.unseen {
         return false;
     }
     if a.x != b.x {

@@ -1,9 +1,10 @@
 // A case: the numbers of a velocity call, each at its place in document 01's list, the scratch that the
-// call is lent, and the planes that are to stand there where it is answered.
+// call is lent, the planes that are to stand there where it is answered, and the neighbour that is to be named.
 ghost use mathlib.Core.Path.{_≡_};
 ghost use Prim.Native.Nat.{_+_, _≤_};
 ghost use lib.ListN.{length};
 ghost use Rattle.velocity_vectors.specs.Cases.{Sized};
+use super::answers::NONE;
 use super::keys::Key;
 use lines::Fields;
 use vectors::number::from_word;
@@ -16,6 +17,7 @@ pub struct Case {
     pub scratch: usize,
     pub fill: u32,
     pub planes: [f32; 537],
+    pub unseen: usize,
 }
 
 // The case that a line leaves, and whether the line asked for what a case can't have.
@@ -34,6 +36,7 @@ pub(crate) fn empty() -> Case
         scratch: 0,
         fill: 0,
         planes: [0.0; 537],
+        unseen: NONE,
     }
 }
 
@@ -157,6 +160,16 @@ fn with_plane(case: Case, fields: Fields) -> Next
     changed(case)
 }
 
+// `unseen K`: the first neighbour that is unseen is K.
+fn with_unseen(case: Case, fields: Fields) -> Next
+    requires { ⌜ Sized case ⌝ }
+    ensures { λ r. ⌜ Sized (r .case) ⌝ }
+{
+    let mut case = case;
+    case.unseen = fields.counts[0];
+    changed(case)
+}
+
 pub(crate) fn change(case: Case, key: Key, fields: Fields) -> Next
     requires { ⌜ Sized case ⌝ }
     ensures { λ r. ⌜ Sized (r .case) ⌝ }
@@ -166,6 +179,7 @@ pub(crate) fn change(case: Case, key: Key, fields: Fields) -> Next
         Key::Cut => with_length(case, fields),
         Key::Scratch => with_scratch(case, fields),
         Key::Plane => with_plane(case, fields),
+        Key::Unseen => with_unseen(case, fields),
         _ => unchanged(case),
     }
 }

@@ -1,6 +1,7 @@
 // Runs stored velocity calls and compares. Its arguments are the files, of `data/`: the worked ones, which are
 // document 01's examples (document-01.txt), each branch of an answer (answers.txt), one input for each refusal
-// and each rule on places (refusals.txt), and as many neighbours as there may be (neighbours.txt); then what the
+// and each rule on places (refusals.txt), as many neighbours as there may be (neighbours.txt), and neighbours that
+// are unseen (unseen.txt); then what the
 // published Rust gives, a file rust-KIND.txt for each kind of input, of which docs/oracle-velocity.md says how
 // they were made. It prints a line for each example, its name and `same`, or `DIFFERENT` with what was got, and
 // then how many there were. The answer is compared with its place and its velocity by bits, and scratch number
@@ -14,6 +15,7 @@
 //     cut N                the first N numbers only
 //     scratch N W          a scratch of N numbers, which holds the words W, W + 1, ..
 //     plane K W W W W W W  the plane of neighbour K, point and normal
+//     unseen K             neighbour K is the first that is unseen, and is named; where there is no such line, none
 //     free W W W           the velocity
 //     relaxed K W W W      the velocity, relaxed from plane K
 //     refused N P          the refusal N, with the place P
@@ -144,7 +146,8 @@ fn answer(wanted: Answer, state: State) -> State
     if !state.open {
         return malformed(state);
     }
-    let tally = report::counted(state.tally, run(state.case, wanted));
+    let named = answers::naming(wanted, state.case.unseen);
+    let tally = report::counted(state.tally, run(state.case, named));
     state.tally = tally;
     state.open = false;
     state

@@ -46,11 +46,12 @@ pub(crate) fn say_name(name: &[u8]) {
     say(b": ");
 }
 
-// The number, place, plane and velocity of an answer.
+// The number, place, plane, unseen neighbour and velocity of an answer.
 fn say_answer(answer: Answer) {
     say_number(answer.number);
     say_number(answer.place);
     say_number(answer.plane);
+    say_number(answer.unseen);
     say_word(answer.x);
     say_word(answer.y);
     say_word(answer.z);

@@ -10,14 +10,26 @@ const TOO_MANY: usize = MOST_NEIGHBOURS + 1;
 
 fn show(name: &str, request: &Request, neighbours: &[Agent]) {
     let mut scratch = [0.0; scratch_length(TOO_MANY)];
-    match velocity(request, neighbours, &mut scratch) {
-        Ok(Velocity::Free([x, y, z])) => println!("{name}: velocity {x} {y} {z}, free"),
-        Ok(Velocity::Relaxed {
-            velocity: [x, y, z],
-            plane,
-        }) => println!("{name}: velocity {x} {y} {z}, relaxed from plane {plane}"),
-        Err(Refusal { number, place }) => println!("{name}: refused, {number} at {place}"),
+    let Velocity {
+        velocity: [x, y, z],
+        relaxed,
+        unseen,
+    } = match velocity(request, neighbours, &mut scratch) {
+        Ok(velocity) => velocity,
+        Err(Refusal { number, place }) => {
+            println!("{name}: refused, {number} at {place}");
+            return;
+        }
+    };
+    print!("{name}: velocity {x} {y} {z}, ");
+    match relaxed {
+        None => print!("free"),
+        Some(plane) => print!("relaxed from plane {plane}"),
     }
+    if let Some(neighbour) = unseen {
+        print!(", neighbour {neighbour} NOT AVOIDED");
+    }
+    println!();
 }
 
 fn main() {
@@ -56,6 +68,25 @@ fn main() {
 
     request.time_step = 1.0;
     show("too many neighbours", &request, &[still; TOO_MANY]);
+
+    // Flying at a neighbour head-on, past where it can be turned from.
+    let fast = Request {
+        agent: Agent {
+            velocity: [10.0, 0.0, 0.0],
+            radius: 2.0,
+            ..still
+        },
+        preferred: [10.0, 0.0, 0.0],
+        max_speed: 10.0,
+        time_step: 0.5,
+        horizon: 1.0,
+        fallback: [0.0, 0.0, 1.0],
+    };
+    let ahead = Agent {
+        position: [5.0, 0.0, 0.0],
+        ..still
+    };
+    show("a neighbour head-on", &fast, &[ahead]);
 
     // Two neighbours at the same place, one of them far too fast.
     request.horizon = 1.0;

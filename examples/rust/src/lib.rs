@@ -17,6 +17,7 @@ extern "C" {
         velocity_length: usize,
         place: *mut u64,
         relaxed: *mut u64,
+        unseen: *mut u64,
     ) -> u32;
 }
 
@@ -26,8 +27,8 @@ pub const MOST_NEIGHBOURS: usize = 63;
 /// The numbers of an agent.
 const AGENT_LENGTH: usize = 8;
 
-/// What the library writes for no plane.
-const NO_PLANE: u64 = u64::MAX;
+/// What the library writes for no plane, and for no neighbour.
+const NONE: u64 = u64::MAX;
 
 /// An agent, laid out as the library reads it.
 #[repr(C)]
@@ -88,13 +89,13 @@ impl Request {
 
 /// A velocity that avoids the neighbours, or comes as near to it as their planes allow.
 #[derive(Clone, Copy, PartialEq, Debug)]
-pub enum Velocity {
-    Free([f32; 3]),
-    /// The planes leave none free, from this one on.
-    Relaxed {
-        velocity: [f32; 3],
-        plane: usize,
-    },
+pub struct Velocity {
+    pub velocity: [f32; 3],
+    /// The plane from which it is relaxed, where the planes leave none free.
+    pub relaxed: Option<usize>,
+    /// The first neighbour that is unseen, which means NOT AVOIDED: flown at straight, too fast to be turned
+    /// from. Whoever flies the drone has to do something about it.
+    pub unseen: Option<usize>,
 }
 
 /// A refusal: its number, and the place that it is about. Displayed, it says why, and what to do about it.
@@ -144,7 +145,7 @@ pub fn velocity(
 ) -> Result<Velocity, Refusal> {
     let numbers = request.numbers();
     let mut velocity = [0.0; 3];
-    let (mut place, mut relaxed) = (0, 0);
+    let (mut place, mut relaxed, mut unseen) = (0, 0, 0);
     // SAFETY: each pointer comes with the length of what it points to, in numbers, and an Agent is 8 of
     // them. What is lent to be written is borrowed mutably, so nothing else that is lent overlaps it. A
     // reference is never null.
@@ -160,14 +161,16 @@ pub fn velocity(
             velocity.len(),
             &mut place,
             &mut relaxed,
+            &mut unseen,
         )
     };
-    match (number, relaxed) {
-        (0, NO_PLANE) => Ok(Velocity::Free(velocity)),
-        (0, plane) => Ok(Velocity::Relaxed {
-            velocity,
-            plane: plane as usize,
-        }),
-        _ => Err(Refusal { number, place }),
+    if number != 0 {
+        return Err(Refusal { number, place });
     }
+    let index = |number: u64| (number != NONE).then_some(number as usize);
+    Ok(Velocity {
+        velocity,
+        relaxed: index(relaxed),
+        unseen: index(unseen),
+    })
 }

@@ -25,7 +25,9 @@ pub const MOST_NEIGHBOURS: usize = 63;
 pub const BAD_LENGTHS: u32 = 255;
 /// What stands for no relaxed plane.
 pub const NO_PLANE: u64 = u64::MAX;
-/// What the server puts where the place and the relaxed plane are to be written.
+/// What stands for no neighbour that is unseen.
+pub const NO_NEIGHBOUR: u64 = u64::MAX;
+/// What the server puts where the place, the relaxed plane and the unseen neighbour are to be written.
 pub const UNWRITTEN: u64 = 0xA5A5_A5A5_A5A5_A5A5;
 
 /// What the first number of scratch holds where a stored call is made again, the next one unit more.
@@ -47,6 +49,7 @@ pub struct Reply {
     pub answer: u32,
     pub place: u64,
     pub relaxed: u64,
+    pub unseen: u64,
     pub velocity: Vec<u32>,
     pub scratch: Vec<u32>,
     /// Whether it wrote where nothing was lent to be written.
@@ -90,6 +93,9 @@ impl Reply {
         let mut text = String::new();
         for (k, plane) in self.scratch[..PLANE * count].chunks(PLANE).enumerate() {
             text += &line("plane", Some(k), plane.iter().copied());
+        }
+        if self.unseen != NO_NEIGHBOUR {
+            text += &line("unseen", Some(self.unseen as usize), []);
         }
         let velocity = self.velocity.iter().copied();
         text += &match self.relaxed {

@@ -17,15 +17,19 @@ pub enum Kind {
     Bits,
     /// One of the others with something in it that is to be refused.
     Damaged,
+    /// A hangar or a grid with neighbours flown at straight, past the tangent ring, where no normal can be
+    /// made.
+    HeadOn,
 }
 
-pub const KINDS: [Kind; 6] = [
+pub const KINDS: [Kind; 7] = [
     Kind::Hangar,
     Kind::Crowd,
     Kind::Grid,
     Kind::Nudged,
     Kind::Bits,
     Kind::Damaged,
+    Kind::HeadOn,
 ];
 
 /// The kinds in the proportion in which they are drawn.
@@ -48,10 +52,19 @@ const SHARES: [Kind; 16] = [
     Kind::Damaged,
 ];
 
+/// One number in so many, with this remainder, is a head-on case, whatever is drawn. No case of the stored
+/// lists has such a number but the head-on ones.
+const HEAD_ON: [u64; 2] = [48, 34];
+
 /// The case of a number.
 pub fn draw(seed: u64, index: u64) -> (Kind, Case) {
     let random = Random::of(seed, index);
-    let kind = random.pick(&SHARES);
+    let drawn = random.pick(&SHARES);
+    let kind = if index % HEAD_ON[0] == HEAD_ON[1] {
+        Kind::HeadOn
+    } else {
+        drawn
+    };
     let count = count(&random);
     (kind, of_kind(&random, kind, count))
 }
@@ -69,6 +82,7 @@ fn of_kind(random: &Random, kind: Kind, count: usize) -> Case {
         Kind::Nudged => lend(random, nudged(random, count)),
         Kind::Bits => lend(random, bits(random, count)),
         Kind::Damaged => damaged(random, count),
+        Kind::HeadOn => lend(random, head_on(random, count)),
     }
 }
 
@@ -282,6 +296,37 @@ fn grid(random: &Random, count: usize) -> Draft {
             _ => drawn,
         };
         draft.neighbours.push(next);
+    }
+    draft
+}
+
+/// Flies at a neighbour straight: it stands some way along a direction, and our velocity as it sees it is
+/// along that direction too, and faster than would bring us there within the horizon.
+fn flown_at(random: &Random, request: &[f32; REQUEST], neighbour: &mut [f32; AGENT]) {
+    let direction = if random.one_in(4) {
+        whole_vector(random, 2, 0)
+    } else {
+        axis(random)
+    };
+    let apart = (request[RADIUS] + neighbour[RADIUS]).ceil() + (1 + random.below(6)) as f32;
+    let speed = (apart / request[HORIZON]).ceil() + random.below(8) as f32;
+    for at in 0..3 {
+        neighbour[at] = request[at] + direction[at] * apart;
+        neighbour[3 + at] = request[3 + at] - direction[at] * speed;
+    }
+}
+
+fn head_on(random: &Random, count: usize) -> Draft {
+    let mut draft = match random.below(3) {
+        0 => hangar(random, count),
+        _ => grid(random, count),
+    };
+    let often = random.pick(&[1, 2, 4]);
+    let request = draft.request;
+    for neighbour in &mut draft.neighbours {
+        if random.one_in(often) {
+            flown_at(random, &request, neighbour);
+        }
     }
     draft
 }

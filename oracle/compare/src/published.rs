@@ -143,6 +143,13 @@ fn is_clamp(message: &str) -> bool {
     message.contains("min > max, or either was NaN")
 }
 
+/// The first neighbour whose plane has a normal of zeros, of either sign.
+fn unseen(planes: impl Iterator<Item = [f32; PLANE]>) -> u64 {
+    let zeros = |[.., x, y, z]: [f32; PLANE]| [x, y, z] == [0.0; 3];
+    let first = planes.enumerate().find(|&(_, plane)| zeros(plane));
+    first.map_or(NO_NEIGHBOUR, |(neighbour, _)| neighbour as u64)
+}
+
 fn components(plane: &Plane) -> [f32; PLANE] {
     let (p, n) = (plane.point, plane.normal);
     [p.x, p.y, p.z, n.x, n.y, n.z]
@@ -206,6 +213,7 @@ impl Reply {
             answer,
             place,
             relaxed: if written { NO_PLANE } else { UNWRITTEN },
+            unseen: if written { NO_NEIGHBOUR } else { UNWRITTEN },
             velocity: if written {
                 vec![0; VELOCITY]
             } else {
@@ -226,6 +234,7 @@ impl Reply {
     fn done(case: &Case, velocity: Vec3, planes: &[Plane], relaxed: Option<usize>) -> Reply {
         let mut reply = Reply::refused_late(case, 0, 0);
         reply.relaxed = relaxed.map_or(NO_PLANE, |plane| plane as u64);
+        reply.unseen = unseen(planes.iter().map(components));
         // A zero component is written as +0, whichever zero the Rust chose.
         reply.velocity = [velocity.x, velocity.y, velocity.z]
             .map(|x| (x + 0.0).to_bits())
@@ -285,22 +294,28 @@ pub fn expected(case: &Case) -> Expected {
 }
 
 /// Whether a reply to a case that is left out keeps to what the documents say of every answer: it is 0, 6,
-/// 18 or 7, since the checks before passed; a velocity that is refused is three +0s; and scratch is as it
-/// has to be.
+/// 18 or 7, since the checks before passed; a velocity that is refused is three +0s; the neighbour that
+/// is named is the first whose plane, as scratch has it, has a zero normal; and scratch is as it has to be.
 pub fn well_formed(case: &Case, reply: &Reply) -> bool {
     let (planes, rest) = (PLANE * case.count(), SCRATCH * case.count());
     let finite = |words: &[u32]| words.iter().all(|&word| f32::from_bits(word).is_finite());
     let zero = |words: &[u32]| words.iter().all(|&word| word == 0);
+    let numbers = |words: &[u32]| [0, 1, 2, 3, 4, 5].map(|at| f32::from_bits(words[at]));
+    let left = &reply.scratch[..planes];
     let answered = match reply.answer {
         0 => {
             finite(&reply.velocity)
                 && !reply.velocity.contains(&(-0.0f32).to_bits())
-                && finite(&reply.scratch[..planes])
+                && finite(left)
                 && reply.place == 0
                 && (reply.relaxed == NO_PLANE || reply.relaxed < case.count() as u64)
+                && reply.unseen == unseen(left.chunks_exact(PLANE).map(numbers))
         }
         6 | 7 | 18 => {
-            zero(&reply.velocity) && zero(&reply.scratch[..planes]) && reply.relaxed == NO_PLANE
+            zero(&reply.velocity)
+                && zero(left)
+                && reply.relaxed == NO_PLANE
+                && reply.unseen == NO_NEIGHBOUR
         }
         _ => false,
     };

@@ -95,12 +95,14 @@ impl Server {
         let stray = self.word()? != 0;
         let place = self.long()?;
         let relaxed = self.long()?;
+        let unseen = self.long()?;
         let scratch = self.words(case.scratch.len())?;
         let velocity = self.words(case.velocity.len())?;
         Ok(Reply {
             answer,
             place,
             relaxed,
+            unseen,
             velocity,
             scratch,
             stray,

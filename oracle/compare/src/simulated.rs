@@ -6,7 +6,7 @@ use std::mem;
 use dodgy_3d::{Agent, Simulator, Vec3};
 
 use crate::calls::{Call, Flight, Rule, ENOUGH};
-use crate::case::{Case, Reply, NO_PLANE};
+use crate::case::{Case, Reply, NO_NEIGHBOUR, NO_PLANE};
 use crate::published::{caught, expected, vector, Expected};
 use crate::record::*;
 
@@ -75,9 +75,13 @@ fn plan_line(reply: &Reply, kept: &[usize]) -> String {
             .collect::<Vec<_>>()
             .join(" ")
     };
+    let unseen = match reply.unseen {
+        NO_NEIGHBOUR => String::new(),
+        neighbour => format!(" unseen {}", kept[neighbour as usize]),
+    };
     match (reply.answer, reply.relaxed) {
-        (0, NO_PLANE) => format!("velocity {} free", words()),
-        (0, plane) => format!("velocity {} relaxed {plane}", words()),
+        (0, NO_PLANE) => format!("velocity {} free{unseen}", words()),
+        (0, plane) => format!("velocity {} relaxed {plane}{unseen}", words()),
         // the place is the neighbour's table index; 18's is the plane of the call
         (6, _) => format!("refused 6 {}", kept[reply.place as usize]),
         (number, _) => format!("refused {number} {}", reply.place),
@@ -271,6 +275,9 @@ impl Fleet {
             (0, _) => self.count("plan relaxed"),
             (number, _) if again => self.count(format!("plan refused {number} after an answer")),
             (number, _) => self.count(format!("plan refused {number}")),
+        }
+        if reply.unseen != NO_NEIGHBOUR {
+            self.count("plan that names an unseen agent");
         }
         if reply.answer == 0 {
             let numbers = [0, 1, 2].map(|axis| f32::from_bits(reply.velocity[axis]));

@@ -28,7 +28,7 @@ use Rattle.avoidance.specs.Lent.{perAgent, agentNumbers}
 use Rattle.avoidance.specs.Request.{preferredPlace, maxSpeedPlace}
 use Rattle.avoidance.specs.Checks.{mostNeighbours, callKind, badNumber, ragged, tooMany, neededScratch, shortScratch, checks}
 use Rattle.avoidance.specs.Reply.{number, placeOf}
-use Rattle.avoidance.specs.Velocity.{planesOfCall, badPlane, answeredWith, outcomeReply, replyOf, planesVerdict, plannedReply, velocityCall}
+use Rattle.avoidance.specs.Velocity.{planesOfCall, badPlane, firstUnseen, answeredWith, outcomeReply, replyOf, planesVerdict, plannedReply, velocityCall}
 use Rattle.avoidance.proofs.AgentNumbers.{numbers-many}
 use Rattle.avoidance.proofs.Ranges.{never-outside}
 use Rattle.avoidance.proofs.checks.CallNumbers.{FitRequest, FitNeighbours, vectorNumbers, firstFrom, first-preferred}
@@ -86,19 +86,19 @@ checked-fit true needed found planned unfinite fit = shortOf refl
 checked-fit false needed found planned nowhere fit = fit
 checked-fit false needed found planned (somewhere place low high) fit = farPreferred refl low high
 
-valued-fit : (value : Vec3) (relaxed : Found) → FitReply (answeredWith value relaxed)
+valued-fit : (value : Vec3) (relaxed unseen : Found) → FitReply (answeredWith value relaxed unseen)
 unfolding answeredWith
-valued-fit value relaxed = go (finiteVec value)
+valued-fit value relaxed unseen = go (finiteVec value)
   where
-    go : (b : Bool) → FitReply (cond b (Answered (record { velocity = plusZeros value; relaxed = relaxed })) (Refused NoVelocity))
+    go : (b : Bool) → FitReply (cond b (Answered (record { velocity = plusZeros value; relaxed = relaxed; unseen = unseen })) (Refused NoVelocity))
     go true = isAnswer refl
     go false = noVelocity refl
 
-solved-fit : (outcome : Outcome) (value : Vec3) → FitReply (outcomeReply outcome value)
+solved-fit : (outcome : Outcome) (value : Vec3) (unseen : Found) → FitReply (outcomeReply outcome value unseen)
 unfolding outcomeReply
-solved-fit (Feasible best) value = valued-fit value Nothing
-solved-fit (Infeasible failure) value = valued-fit value (At (failure .index))
-solved-fit (BadClamp plane) value = badClamp refl
+solved-fit (Feasible best) value unseen = valued-fit value Nothing unseen
+solved-fit (Infeasible failure) value unseen = valued-fit value (At (failure .index)) unseen
+solved-fit (BadClamp plane) value unseen = badClamp refl
 
 planes-fit : (found : Found) (reply : Reply) → FitReply reply → FitReply (settledBy (refusedAt found PlaneNotFinite) Refused reply)
 planes-fit (At neighbour) reply fit = planeNotFinite refl
@@ -109,7 +109,7 @@ unfolding plannedReply planesVerdict replyOf
 planned-fit request neighbours =
     let planes = planesOfCall request neighbours in
     let solution = solve planes (request .«max_speed») (request .preferred) in
-    planes-fit (firstBad badPlane 0 planes) (replyOf solution) (solved-fit (solution .outcome) (solution .value))
+    planes-fit (firstBad badPlane 0 planes) (replyOf solution (firstUnseen request neighbours)) (solved-fit (solution .outcome) (solution .value) (firstUnseen request neighbours))
 
 pub fit-call : (request : Request) (neighbours : List Float) (n k : ℕ) → FitRequest request → FitNeighbours n neighbours → n ≤ mostNeighbours → FitReply (velocityCall request neighbours k)
 unfolding velocityCall checks

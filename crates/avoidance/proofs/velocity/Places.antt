@@ -33,7 +33,7 @@ use Rattle.avoidance.specs.Lent.{agentCount}
 use Rattle.avoidance.specs.Request.{fallbackPlace}
 use Rattle.avoidance.specs.Checks.{firstOf, ragged, tooMany, neededScratch, shortScratch, badFallback, checks}
 use Rattle.avoidance.specs.Reply.{number}
-use Rattle.avoidance.specs.Velocity.{planesOfCall, badPlane, answeredWith, outcomeReply, replyOf, planesVerdict, plannedReply, velocityCall, plannedScratch, scratchAfter}
+use Rattle.avoidance.specs.Velocity.{planesOfCall, badPlane, firstUnseen, answeredWith, outcomeReply, replyOf, planesVerdict, plannedReply, velocityCall, plannedScratch, scratchAfter}
 use Rattle.avoidance.specs.Conditions.{Placed, scratchBy}
 
 -- ---- what holds of each refusal
@@ -67,19 +67,19 @@ checks-give Q request neighbours k whole few long finite in-range fit =
     (gives-then Q outside unfit (gives-found Q (firstOf InRange request neighbours) refusal.OutOfRange in-range) (gives-held Q (badFallback (request .fallback)) _ fit)))))
 
 -- and of those that are given once they passed
-valued-give : (Q : Refusal → Type 0) (value : Vec3) (relaxed : Found) → Q refusal.NoVelocity → GivenBy Q (answeredWith value relaxed)
+valued-give : (Q : Refusal → Type 0) (value : Vec3) (relaxed unseen : Found) → Q refusal.NoVelocity → GivenBy Q (answeredWith value relaxed unseen)
 unfolding answeredWith
-valued-give Q value relaxed none = go (finiteVec value)
+valued-give Q value relaxed unseen none = go (finiteVec value)
   where
-    go : (b : Bool) → GivenBy Q (cond b (Answered (record { velocity = plusZeros value; relaxed = relaxed })) (Refused refusal.NoVelocity))
+    go : (b : Bool) → GivenBy Q (cond b (Answered (record { velocity = plusZeros value; relaxed = relaxed; unseen = unseen })) (Refused refusal.NoVelocity))
     go true = tt
     go false = none
 
-outcome-gives : (Q : Refusal → Type 0) (outcome : Outcome) (value : Vec3) → ((plane : ℕ) → outcome ≡ BadClamp plane → Q (refusal.BadClamp plane)) → Q refusal.NoVelocity → GivenBy Q (outcomeReply outcome value)
+outcome-gives : (Q : Refusal → Type 0) (outcome : Outcome) (value : Vec3) (unseen : Found) → ((plane : ℕ) → outcome ≡ BadClamp plane → Q (refusal.BadClamp plane)) → Q refusal.NoVelocity → GivenBy Q (outcomeReply outcome value unseen)
 unfolding outcomeReply
-outcome-gives Q (Feasible best) value clamp none = valued-give Q value Nothing none
-outcome-gives Q (Infeasible failure) value clamp none = valued-give Q value (At (failure .index)) none
-outcome-gives Q (BadClamp plane) value clamp none = clamp plane refl
+outcome-gives Q (Feasible best) value unseen clamp none = valued-give Q value Nothing unseen none
+outcome-gives Q (Infeasible failure) value unseen clamp none = valued-give Q value (At (failure .index)) unseen none
+outcome-gives Q (BadClamp plane) value unseen clamp none = clamp plane refl
 
 planned-gives : (Q : Refusal → Type 0) (request : Request) (neighbours : List Float)
     → ((neighbour : ℕ) → firstBad badPlane 0 (planesOfCall request neighbours) ≡ At neighbour → Q (refusal.PlaneNotFinite neighbour))
@@ -89,8 +89,8 @@ unfolding plannedReply planesVerdict replyOf
 planned-gives Q request neighbours plane clamp none =
     let planes = planesOfCall request neighbours in
     let solution = solve planes (request .«max_speed») (request .preferred) in
-    settled-gives Q (refusedAt (firstBad badPlane 0 planes) refusal.PlaneNotFinite) (replyOf solution)
-    (gives-found Q (firstBad badPlane 0 planes) refusal.PlaneNotFinite plane) (outcome-gives Q (solution .outcome) (solution .value) clamp none)
+    settled-gives Q (refusedAt (firstBad badPlane 0 planes) refusal.PlaneNotFinite) (replyOf solution (firstUnseen request neighbours))
+    (gives-found Q (firstBad badPlane 0 planes) refusal.PlaneNotFinite plane) (outcome-gives Q (solution .outcome) (solution .value) (firstUnseen request neighbours) clamp none)
 
 -- ---- places
 

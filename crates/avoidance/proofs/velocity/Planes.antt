@@ -1,61 +1,75 @@
--- The planes of the neighbours, from one of them on, and the first that is not finite.
-use mathlib.Core.Path.{_≡_, refl, ap, _∙_}
-use mathlib.Core.Bool.{true, false, not}
+-- What is made of each neighbour, from one of them on, and the first that is bad: a plane that is not finite, or a neighbour that is unseen.
+use mathlib.Core.Path.{_≡_, refl, sym, ap, _∙_}
+use mathlib.Core.Bool.{Bool, true, false}
 use mathlib.Core.List.{List, [], _∷_, _++_}
 use Prim.Native.Nat.{ℕ, zero, suc, _+_, _-_, _*_, _≤_, _<_}
 use native.Mathlib.Omega.{arith}
 use lib.Ieee.{Float}
 use lib.ListN.{length, drop}
 use lib.Seq.{drop-drop}
-use Rattle.solver.specs.declared.Plane.{Plane}
-use Rattle.avoidance.specs.declared.Request.{Request}
+use Rattle.refusals.specs.declared.Found.{Found}
 use Rattle.refusals.specs.declared.Found.the-variants.{At, Nothing}
 use Rattle.refusals.specs.Conditions.{firstBad}
-use Rattle.refusals.proofs.Conditions.{first-here, first-later, first-none}
-use Rattle.avoidance.specs.Velocity.{planeOf, planesFrom, finitePlane, badPlane}
+use Rattle.refusals.proofs.Conditions.{orElse, first-here, first-later, first-none}
+use Rattle.avoidance.specs.Velocity.{eachFrom, isUnseen}
+use Rattle.avoidance.specs.parts.Velocity.{noted}
 
--- ---- the list of planes
+-- ---- the list
 
-pub from-length : (request : Request) (n : ℕ) (xs : List Float) → length (planesFrom request n xs) ≡ n
-unfolding planesFrom
-from-length request zero xs = refl
-from-length request (suc n) xs = ap suc (from-length request n (drop 8 xs))
+module _ {A : Type 0} (f : List Float → A) where
+  pub from-length : (n : ℕ) (xs : List Float) → length (eachFrom f n xs) ≡ n
+  unfolding eachFrom
+  from-length zero xs = refl
+  from-length (suc n) xs = ap suc (from-length n (drop 8 xs))
 
-pub from-more : (request : Request) (k : ℕ) (xs : List Float) → planesFrom request (k + 1) xs ≡ planesFrom request k xs ++ planeOf request (drop (8 * k) xs) ∷ []
-unfolding planesFrom
-from-more request zero xs = refl
-from-more request (suc k) xs =
-    let next : 8 + 8 * k ≡ 8 * suc k = omega arith in
-    let more : suc k + 1 ≡ suc (k + 1) = omega arith in
-    ap (λ (m : ℕ). planesFrom request m xs) more
-    ∙ ap (λ (ps : List Plane). planeOf request xs ∷ ps) (from-more request k (drop 8 xs) ∙ ap (λ (ys : List Float). planesFrom request k (drop 8 xs) ++ planeOf request ys ∷ []) (drop-drop (8 * k) 8 xs ∙ ap (λ (m : ℕ). drop m xs) next))
+  pub from-more : (k : ℕ) (xs : List Float) → eachFrom f (k + 1) xs ≡ eachFrom f k xs ++ f (drop (8 * k) xs) ∷ []
+  unfolding eachFrom
+  from-more zero xs = refl
+  from-more (suc k) xs =
+      let next : 8 + 8 * k ≡ 8 * suc k = omega arith in
+      let next-count : suc k + 1 ≡ suc (k + 1) = omega arith in
+      ap (λ (m : ℕ). eachFrom f m xs) next-count
+      ∙ ap (λ (more : List A). f xs ∷ more) (from-more k (drop 8 xs) ∙ ap (λ (ys : List Float). eachFrom f k (drop 8 xs) ++ f ys ∷ []) (drop-drop (8 * k) 8 xs ∙ ap (λ (m : ℕ). drop m xs) next))
 
--- the planes from neighbour k on
-abbrev pub fromOn : Request → ℕ → ℕ → List Float → List Plane
-fromOn request n k xs = planesFrom request (n - k) (drop (8 * k) xs)
+  -- from neighbour k on
+  abbrev pub fromOn : ℕ → ℕ → List Float → List A
+  fromOn n k xs = eachFrom f (n - k) (drop (8 * k) xs)
 
-pub from-step : (request : Request) (n k : ℕ) (xs : List Float) → k < n → fromOn request n k xs ≡ planeOf request (drop (8 * k) xs) ∷ fromOn request n (k + 1) xs
-unfolding planesFrom
-from-step request n k xs h =
-    let fewer : n - k ≡ suc (n - (k + 1)) = omega arith in
-    let next : 8 * k + 8 ≡ 8 * (k + 1) = omega arith in
-    ap (λ (m : ℕ). planesFrom request m (drop (8 * k) xs)) fewer
-    ∙ ap (λ (ys : List Float). planeOf request (drop (8 * k) xs) ∷ planesFrom request (n - (k + 1)) ys) (drop-drop 8 (8 * k) xs ∙ ap (λ (m : ℕ). drop m xs) next)
+  pub from-step : (n k : ℕ) (xs : List Float) → k < n → fromOn n k xs ≡ f (drop (8 * k) xs) ∷ fromOn n (k + 1) xs
+  unfolding eachFrom
+  from-step n k xs h =
+      let fewer : n - k ≡ suc (n - (k + 1)) = omega arith in
+      let next : 8 * k + 8 ≡ 8 * (k + 1) = omega arith in
+      ap (λ (m : ℕ). eachFrom f m (drop (8 * k) xs)) fewer
+      ∙ ap (λ (ys : List Float). f (drop (8 * k) xs) ∷ eachFrom f (n - (k + 1)) ys) (drop-drop 8 (8 * k) xs ∙ ap (λ (m : ℕ). drop m xs) next)
 
-pub from-all : (request : Request) (n : ℕ) (xs : List Float) → fromOn request n 0 xs ≡ planesFrom request n xs
-from-all request n xs = let whole : n - 0 ≡ n = omega arith in ap (λ (m : ℕ). planesFrom request m xs) whole
+  pub from-all : (n : ℕ) (xs : List Float) → fromOn n 0 xs ≡ eachFrom f n xs
+  from-all n xs = let whole : n - 0 ≡ n = omega arith in ap (λ (m : ℕ). eachFrom f m xs) whole
 
-pub from-none : (request : Request) (n k : ℕ) (xs : List Float) → n ≤ k → fromOn request n k xs ≡ []
-unfolding planesFrom
-from-none request n k xs h = let none : n - k ≡ 0 = omega arith in ap (λ (m : ℕ). planesFrom request m (drop (8 * k) xs)) none
+  pub from-none : (n k : ℕ) (xs : List Float) → n ≤ k → fromOn n k xs ≡ []
+  unfolding eachFrom
+  from-none n k xs h = let none : n - k ≡ 0 = omega arith in ap (λ (m : ℕ). eachFrom f m (drop (8 * k) xs)) none
 
--- ---- the first that is not finite
+  -- ---- the first that is bad
 
-pub found-here : (request : Request) (n k : ℕ) (xs : List Float) → k < n → finitePlane (planeOf request (drop (8 * k) xs)) ≡ false → firstBad badPlane k (fromOn request n k xs) ≡ At k
-found-here request n k xs h is = first-here badPlane k _ _ _ (from-step request n k xs h) (ap not is)
+  module _ (bad : ℕ → A → Bool) where
+    pub found-here : (n k : ℕ) (xs : List Float) → k < n → bad k (f (drop (8 * k) xs)) ≡ true → firstBad bad k (fromOn n k xs) ≡ At k
+    found-here n k xs h is = first-here bad k _ _ _ (from-step n k xs h) is
 
-pub found-later : (request : Request) (n k : ℕ) (xs : List Float) → k < n → finitePlane (planeOf request (drop (8 * k) xs)) ≡ true → firstBad badPlane k (fromOn request n k xs) ≡ firstBad badPlane (k + 1) (fromOn request n (k + 1) xs)
-found-later request n k xs h is = first-later badPlane k _ _ _ (from-step request n k xs h) (ap not is)
+    pub found-later : (n k : ℕ) (xs : List Float) → k < n → bad k (f (drop (8 * k) xs)) ≡ false → firstBad bad k (fromOn n k xs) ≡ firstBad bad (k + 1) (fromOn n (k + 1) xs)
+    found-later n k xs h is = first-later bad k _ _ _ (from-step n k xs h) is
 
-pub found-none : (request : Request) (n k : ℕ) (xs : List Float) → n ≤ k → firstBad badPlane k (fromOn request n k xs) ≡ Nothing
-found-none request n k xs h = first-none badPlane k _ (from-none request n k xs h)
+    pub found-none : (n k : ℕ) (xs : List Float) → n ≤ k → firstBad bad k (fromOn n k xs) ≡ Nothing
+    found-none n k xs h = first-none bad k _ (from-none n k xs h)
+
+-- ---- the first that is unseen, of those passed or else of those left
+
+pub or-nothing : (found : Found) → orElse found Nothing ≡ found
+or-nothing (At index) = refl
+or-nothing Nothing = refl
+
+pub noted-on : (f : List Float → Bool) (n k : ℕ) (xs : List Float) (found : Found) (b : Bool) → k < n → f (drop (8 * k) xs) ≡ b
+    → orElse (noted found b k) (firstBad isUnseen (k + 1) (fromOn f n (k + 1) xs)) ≡ orElse found (firstBad isUnseen k (fromOn f n k xs))
+noted-on f n k xs (At earlier) b h is = refl
+noted-on f n k xs Nothing true h is = sym (found-here f isUnseen n k xs h is)
+noted-on f n k xs Nothing false h is = sym (found-later f isUnseen n k xs h is)

@@ -1,18 +1,31 @@
 -- What the velocity call's private functions promise each other of the scratch.
 use Prim.Native.Nat.{ℕ, _*_}
 use mathlib.Core.Path.{_≡_}
+use mathlib.Core.Bool.{Bool, cond}
 use mathlib.Core.List.{List, _++_}
 use lib.ListN.{length, drop}
 use lib.Ieee.{Float}
 use Rattle.refusals.specs.declared.Found.{Found}
-use Rattle.refusals.specs.declared.Found.the-variants.{Nothing}
+use Rattle.refusals.specs.declared.Found.the-variants.{At, Nothing}
 use Rattle.refusals.specs.Conditions.{firstBad}
 use Rattle.solver.specs.declared.Plane.{Plane}
 use Rattle.solver.specs.Lent.{perPlane, numbersOfPlanes}
-use Rattle.avoidance.specs.Velocity.{badPlane}
+use Rattle.avoidance.specs.declared.velocity.Made.{Made}
+use Rattle.avoidance.specs.declared.velocity.Made.the-variants.{Finite, NotFinite}
+use Rattle.avoidance.specs.Velocity.{badPlane, isUnseen}
 
--- the first plane that is not finite was found; where there is none, all of them stand at the beginning
-pub record Written (n : ℕ) (planes : List Plane) (before after : List Float) (r : Found) : Type 0 where
+-- what was found before, or else the neighbour at an index, where it is unseen
+abbrev pub noted : Found → Bool → ℕ → Found
+noted (At earlier) unseen index = At earlier
+noted Nothing unseen index = cond unseen (At index) Nothing
+
+-- the first plane that is not finite, or else the first neighbour that is unseen
+abbrev pub madeOf : Found → Found → Made
+madeOf (At neighbour) unseen = NotFinite neighbour
+madeOf Nothing unseen = Finite unseen
+
+-- where every plane is finite, all of them stand at the beginning
+pub record Written (n : ℕ) (planes : List Plane) (unseen : List Bool) (before after : List Float) (r : Made) : Type 0 where
   pub same-length : length after ≡ length before
-  pub found : r ≡ firstBad badPlane 0 planes
-  pub stands : r ≡ Nothing → after ≡ numbersOfPlanes planes ++ drop (perPlane * n) before
+  pub made : r ≡ madeOf (firstBad badPlane 0 planes) (firstBad isUnseen 0 unseen)
+  pub stands : (first : Found) → r ≡ Finite first → after ≡ numbersOfPlanes planes ++ drop (perPlane * n) before

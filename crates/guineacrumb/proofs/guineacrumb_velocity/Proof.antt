@@ -1,4 +1,4 @@
--- Lengths that do not fit leave all that was lent as it was, and where they fit each of the five results is what the velocity call's reply gives.
+-- Lengths that do not fit leave all that was lent as it was, and where they fit each of the six results is what the velocity call's reply gives.
 use mathlib.Core.Path.{_≡_, refl, sym, _∙_}
 use mathlib.Core.Bool.{Bool, true, false, _&&_}
 use mathlib.Core.List.{List}
@@ -12,7 +12,7 @@ use Rattle.avoidance.specs.declared.Request.{Request}
 use Rattle.avoidance.specs.declared.ReadRequest.the-variants.{Is, BadLength}
 use Rattle.avoidance.specs.Request.{perRequest, requestAt, readRequest}
 use Rattle.avoidance.proofs.RequestLaws.{not-read, is-read}
-use Rattle.guineacrumb.specs.Velocity.{fits, replyTo, answer, scratchLeft, velocityLeft, placeLeft, relaxedLeft}
+use Rattle.guineacrumb.specs.Velocity.{fits, replyTo, answer, scratchLeft, velocityLeft, placeLeft, relaxedLeft, unseenLeft}
 use Rattle.guineacrumb.proofs.guineacrumb_velocity.Statement.{statement}
 use Rattle.guineacrumb.proofs.guineacrumb_velocity.Tie as tie
 
@@ -37,11 +37,11 @@ module _ (velocity request : List Float) where
       (rw long (eq-eqb (length velocity) 3 three), same)
 
 returns : tie.Need-returns
-unfolding answer scratchLeft velocityLeft placeLeft relaxedLeft
+unfolding answer scratchLeft velocityLeft placeLeft relaxedLeft unseenLeft
 returns c =
     let start = c .before .before .before .before .before in
     let unfit = bad-velocity (now (start .args .velocity)) (now (start .args .request)) (c .if1 .taken) in
-    (simp unfit, (simp unfit, (simp unfit, (simp unfit, simp unfit))))
+    (simp unfit, (simp unfit, (simp unfit, (simp unfit, (simp unfit, simp unfit)))))
 
 read-requires : tie.Need-read-requires
 read-requires c κs = search needs
@@ -53,12 +53,12 @@ enum-told : tie.Need-enum-told
 enum-told c = search needs
 
 returns-2 : tie.Need-returns-2
-unfolding answer scratchLeft velocityLeft placeLeft relaxedLeft
+unfolding answer scratchLeft velocityLeft placeLeft relaxedLeft unseenLeft
 returns-2 c =
     let read = c .before .before in
     let start = read .before .before .before .before .before .before in
     let unfit = bad-request (now (start .args .velocity)) (now (start .args .request)) (sym (read .read .ensures) ∙ c .enum-told .given .1) in
-    (simp unfit, (simp unfit, (simp unfit, (simp unfit, simp unfit))))
+    (simp unfit, (simp unfit, (simp unfit, (simp unfit, (simp unfit, simp unfit)))))
 
 velocity-requires : tie.Need-velocity-requires
 velocity-requires c κs = search needs
@@ -72,8 +72,17 @@ write-requires c κs = search needs
 place-requires : tie.Need-place-requires
 place-requires c κs = search needs
 
-relaxed-from-requires : tie.Need-relaxed-from-requires
-relaxed-from-requires c κs = search needs
+relaxed-requires : tie.Need-relaxed-requires
+relaxed-requires c κs = search needs
+
+or-none-requires : tie.Need-or-none-requires
+or-none-requires c κs = search needs
+
+unseen-requires : tie.Need-unseen-requires
+unseen-requires c κs = search needs
+
+or-none-requires-2 : tie.Need-or-none-requires-2
+or-none-requires-2 c κs = search needs
 
 number-requires : tie.Need-number-requires
 number-requires c κs = search needs
@@ -85,9 +94,9 @@ same-length-2 : tie.Need-same-length-2
 same-length-2 c = search needs
 
 returns-3 : tie.Need-returns-3
-unfolding answer scratchLeft velocityLeft placeLeft relaxedLeft replyTo
+unfolding answer scratchLeft velocityLeft placeLeft relaxedLeft unseenLeft replyTo
 returns-3 c =
-    let called = c .before .before .before .before .before .before .before .before .before .before in
+    let called = c .before .before .before .before .before .before .before .before .before .before .before .before .before in
     let given = called .before .before .before in
     let read = given .before .before in
     let start = read .before .before .before .before .before .before in
@@ -96,9 +105,11 @@ returns-3 c =
     let request = fit .1 in
     let reply = called .velocity .ensures .0 in
     let scratch = called .velocity .ensures .1 in
-    let vector = c .before .before .before .before .before .before .velocity2 .ensures in
-    let written = c .before .before .before .before .before .write .ensures in
-    (simp (fits, ← request, ← reply, c .number .ensures), (simp (fits, ← request, scratch), (simp (fits, ← request, ← reply, ← vector, written), (simp (fits, ← request, ← reply, c .before .before .place .ensures), simp (fits, ← request, ← reply, c .before .relaxed-from .ensures)))))
+    let vector = c .before .before .before .before .before .before .before .before .before .velocity2 .ensures in
+    let written = c .before .before .before .before .before .before .before .before .write .ensures in
+    let placed = c .before .before .before .before .before in
+    let relaxed = c .before .before .before in
+    (simp (fits, ← request, ← reply, c .number .ensures), (simp (fits, ← request, scratch), (simp (fits, ← request, ← reply, ← vector, written), (simp (fits, ← request, ← reply, placed .place .ensures), (simp (fits, ← request, ← reply, ← relaxed .before .relaxed .ensures, relaxed .or-none .ensures), simp (fits, ← request, ← reply, ← c .before .before .unseen .ensures, c .before .or-none2 .ensures))))))
 
 pub guineacrumb-velocity-spec : {M : Type 1} → statement M
 guineacrumb-velocity-spec =
@@ -113,7 +124,10 @@ guineacrumb-velocity-spec =
     velocity-requires-2
     write-requires
     place-requires
-    relaxed-from-requires
+    relaxed-requires
+    or-none-requires
+    unseen-requires
+    or-none-requires-2
     number-requires
     same-length
     same-length-2

@@ -3,7 +3,7 @@
 //!     compare SEED COUNT COMMAND ..
 //!
 //! draws COUNT cases, has COMMAND, the server, make the calls, and compares: the answer with its place,
-//! the velocity as numbers, its zeros as +0, the relaxed plane, and scratch number by number, planes by
+//! the velocity as numbers, its zeros as +0, the relaxed plane, the unseen neighbour, and scratch number by number, planes by
 //! their bits. The last line counts. The exit status is 0 only where nothing differs.
 use std::process::ExitCode;
 use std::{env, io};
@@ -88,6 +88,7 @@ struct Tally {
     cases: u64,
     free: u64,
     relaxed: u64,
+    unseen: u64,
     refused: [u64; NUMBERS.len()],
     bad_lengths: u64,
     panicked: u64,
@@ -100,6 +101,9 @@ impl Tally {
         self.cases += 1;
         self.different += u64::from(differs);
         self.panicked += u64::from(matches!(expected, Expected::Panic(_)));
+        if let Expected::Reply(reply) = expected {
+            self.unseen += u64::from(reply.answer == 0 && reply.unseen != NO_NEIGHBOUR);
+        }
         match expected {
             Expected::LeftOut => self.left_out += 1,
             Expected::Surprise(_) => (),
@@ -119,11 +123,12 @@ impl Tally {
             .map(|(number, often)| format!("{number}: {often}"))
             .collect();
         format!(
-            "{} cases, {} free, {} relaxed, refused {}, lengths: {} (the Rust panics at {}), \
+            "{} cases, {} free, {} relaxed, {} of both name a neighbour, refused {}, lengths: {} (the Rust panics at {}), \
              {} left out, {} differences",
             self.cases,
             self.free,
             self.relaxed,
+            self.unseen,
             refused.join(", "),
             self.bad_lengths,
             self.panicked,

@@ -1,0 +1,2 @@
+-- Laws of vectors, beside the proofs of their methods.
+pub mod NotZero
