@@ -33,16 +33,20 @@ use Rattle.fleet.specs.Tick.{withHeld}
 abbrev pub two : Float
 two = ofWord 0x4000_0000
 
--- q
+-- the Rust's q
 unfoldable pub queryDistance : Record → Float
 queryDistance own = maxSpeedOf own ⊗ horizonOf own ⊕ radiusOf own ⊗ two
+
+-- the near rule's q, document 02's [3]: document 01's, which was the Rust's, doubled the planning drone's own radius and forgot that the other moves
+unfoldable pub nearDistance : Record → Record → Float
+nearDistance own other = (maxSpeedOf own ⊕ maxSpeedOf other) ⊗ horizonOf own ⊕ radiusOf own ⊕ radiusOf other
 
 -- the Rust skips those at `<=`, and keeps the far ones
 unfoldable pub keeps : Rule → Record → Record → Bool
 keeps Source own other =
     distanceSquared (positionOf own) (positionOf other) >ᶠ queryDistance own ⊗ queryDistance own
 keeps Near own other =
-    distanceSquared (positionOf own) (positionOf other) ≤ᶠ queryDistance own ⊗ queryDistance own
+    distanceSquared (positionOf own) (positionOf other) ≤ᶠ nearDistance own other ⊗ nearDistance own other
 
 -- the table indices of the others that the rule keeps, rising, where the first record has the index j
 unfoldable pub keptFrom : Rule → Record → ℕ → ℕ → List Record → List ℕ

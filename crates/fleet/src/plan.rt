@@ -6,7 +6,7 @@ ghost use lib.ListN.{length, take};
 ghost use lib.Seq.{sets};
 ghost use Rattle.avoidance.specs.Lent.{perAgent, agentNumbers};
 ghost use Rattle.records.specs.Record.{mostAgents};
-ghost use Rattle.fleet.specs.Plan.{queryDistance, keeps, keptFrom, requestFor, replyFor, replyScratch, plansAfter, fleetAfter, answeredBy, planOpen, planCall, scratchOpen, planScratch};
+ghost use Rattle.fleet.specs.Plan.{queryDistance, nearDistance, keeps, keptFrom, requestFor, replyFor, replyScratch, plansAfter, fleetAfter, answeredBy, planOpen, planCall, scratchOpen, planScratch};
 ghost use Rattle.fleet.specs.parts.Plan.{roomForNumbers, Lists, withNeighbour};
 use super::Answer;
 use super::Called;
@@ -36,21 +36,35 @@ struct Neighbours {
     indices: [usize; MOST_AGENTS],
 }
 
-// q: an agent farther away than this is not near.
+// The source rule's q: it keeps those that are farther away.
 fn query_distance(own: Record) -> f32
     ensures { λ r. ⌜ r ≡ queryDistance own ⌝ }
 {
     own.max_speed() * own.horizon() + own.radius() * 2.0
 }
 
+// The near rule's q, for an agent and another: it keeps those that are no farther away. Within the horizon the two
+// can come together from there.
+fn near_distance(own: Record, other: Record) -> f32
+    ensures { λ r. ⌜ r ≡ nearDistance own other ⌝ }
+{
+    let speed = own.max_speed() + other.max_speed();
+    speed * own.horizon() + own.radius() + other.radius()
+}
+
 fn keeps(rule: Rule, own: Record, other: Record) -> bool
     ensures { λ r. ⌜ r ≡ keeps rule own other ⌝ }
 {
     let distance_squared = own.position().distance_squared(other.position());
-    let query = query_distance(own);
     match rule {
-        Rule::Source => distance_squared > query * query,
-        Rule::Near => distance_squared <= query * query,
+        Rule::Source => {
+            let query = query_distance(own);
+            distance_squared > query * query
+        }
+        Rule::Near => {
+            let query = near_distance(own, other);
+            distance_squared <= query * query
+        }
     }
 }
 

@@ -31,19 +31,28 @@ pub struct Outcome {
     pub counts: Counts,
 }
 
+/// Whether a rule keeps another: the source rule by document 01's q, which is the Rust's, and the near rule by
+/// document 02's.
+fn keeps(rule: Rule, own: &Record, other: &Record) -> bool {
+    let square = own.position().distance_squared(other.position());
+    let (speed, horizon) = (own.number(MAX_SPEED), own.number(HORIZON));
+    match rule {
+        Rule::Source => {
+            let query = speed * horizon + own.agent().radius * 2.0;
+            square > query * query
+        }
+        Rule::Near => {
+            let way = (speed + other.number(MAX_SPEED)) * horizon;
+            let query = way + own.agent().radius + other.agent().radius;
+            square <= query * query
+        }
+    }
+}
+
 /// The indices of the others that a rule keeps.
 fn neighbours(records: &[Record], index: usize, rule: Rule) -> Vec<usize> {
-    let own = &records[index];
-    let query = own.number(MAX_SPEED) * own.number(HORIZON) + own.agent().radius * 2.0;
     (0..records.len())
-        .filter(|&other| {
-            let square = own.position().distance_squared(records[other].position());
-            let kept = match rule {
-                Rule::Source => square > query * query,
-                Rule::Near => square <= query * query,
-            };
-            other != index && kept
-        })
+        .filter(|&other| other != index && keeps(rule, &records[index], &records[other]))
         .collect()
 }
 
