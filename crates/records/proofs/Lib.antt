@@ -3,6 +3,7 @@ pub mod Parts
 pub mod Within
 pub mod Passed
 pub mod Decoding
+pub mod Encoding
 pub mod Refusals
 pub mod Goals
 pub mod Kept

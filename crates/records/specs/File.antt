@@ -2,8 +2,8 @@
 use Prim.Native.Nat.{ℕ, zero, suc, _+_, _-_, _*_, _/_, _%_}
 use mathlib.Core.Bool.{_&&_, cond}
 use mathlib.Core.List.{List, [], _∷_, _++_}
-use lib.Dec.{leb, eqb}
-use lib.ListN.{length, getD, drop, replicate}
+use lib.Dec.{leb, ltb, eqb}
+use lib.ListN.{length, getD, take, drop, replicate}
 use Rattle.refusals.specs.declared.Refusal.{Refusal}
 use Rattle.refusals.specs.declared.Refusal.the-variants.{BadFile}
 use Rattle.refusals.specs.declared.Verdict.{Verdict}
@@ -72,3 +72,30 @@ decodedRecords file = settledBy (recordsVerdict 0 (recordsOf file)) undecoded (d
 
 unfoldable pub decoded : List ℕ → Decoded
 decoded file = settledBy (fileVerdict file) undecoded (decodedAs (recordsOf file))
+
+-- ---- records as bytes
+
+-- the four bytes of a word, the least of them first
+unfoldable pub bytesOfWord : ℕ → List ℕ
+bytesOfWord word = word % 256 ∷ word / 256 % 256 ∷ word / 65536 % 256 ∷ word / 16777216 % 256 ∷ []
+
+-- the bytes of parts, one after another
+unfoldable pub bytesOfParts : {A : Type 0} → (A → List ℕ) → List A → List ℕ
+bytesOfParts write [] = []
+bytesOfParts write (part ∷ parts) = write part ++ bytesOfParts write parts
+
+abbrev pub bytesOfWords : List ℕ → List ℕ
+bytesOfWords words = bytesOfParts bytesOfWord words
+
+-- a record's bytes
+unfoldable pub bytesOf : Record → List ℕ
+bytesOf r = bytesOfWords (r .words)
+
+-- a file's bytes
+abbrev pub fileOf : List Record → List ℕ
+fileOf rs = bytesOfParts bytesOf rs
+
+-- bytes with a record written at an index among records of 76 bytes: as they were, where they have no room for one there
+unfoldable pub withRecord : List ℕ → ℕ → Record → List ℕ
+withRecord bytes index r =
+    cond (ltb index (length bytes / recordBytes)) (take (recordBytes * index) bytes ++ (bytesOf r ++ drop (recordBytes * index + recordBytes) bytes)) bytes

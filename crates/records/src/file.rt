@@ -1,9 +1,11 @@
 // The fleet file: records of 76 bytes, with each word little-endian. The definitions are in `specs/File.antt`.
 ghost use mathlib.Core.Path.{_≡_};
+ghost use mathlib.Core.List.{_++_};
 ghost use Prim.Native.Nat.{_+_, _/_, _≤_, _<_};
-ghost use lib.ListN.{length, getD, drop};
+ghost use lib.ListN.{length, getD, take, drop};
+ghost use lib.Seq.{sets};
 ghost use Rattle.records.specs.Record.{mostAgents};
-ghost use Rattle.records.specs.File.{recordBytes, wordIn, recordIn, wholeFile, decodedRecords, undecoded, decoded};
+ghost use Rattle.records.specs.File.{recordBytes, wordIn, recordIn, wholeFile, decodedRecords, undecoded, decoded, bytesOfWord, bytesOf, withRecord};
 use super::Decoded;
 use super::MOST_AGENTS;
 use super::RECORD_BYTES;
@@ -99,4 +101,37 @@ pub fn decoded(file: &[u8]) -> Decoded
         return undecoded(refusal);
     }
     decoded_records(file)
+}
+
+// Writes a word's four bytes from `at` on, the least of them first.
+fn write_word(buffer: &mut [u8], at: usize, word: u32)
+    requires { ⌜ at + 4 ≤ length (now buffer) ⌝ }
+    ensures { λ _. ⌜ now (buffer .exit) ≡ sets (now (buffer .entry)) at (bytesOfWord word) ⌝ }
+{
+    buffer[at] = (word % 256) as u8;
+    buffer[at + 1] = (word / 256 % 256) as u8;
+    buffer[at + 2] = (word / 65536 % 256) as u8;
+    buffer[at + 3] = (word / 16777216 % 256) as u8;
+}
+
+// Writes a record's words from `at` on.
+fn write_words(buffer: &mut [u8], at: usize, stored: Record)
+    requires { ⌜ at + recordBytes ≤ length (now buffer) ⌝ }
+    ensures { λ _. ⌜ now (buffer .exit) ≡ take at (now (buffer .entry)) ++ (bytesOf stored ++ drop (at + recordBytes) (now (buffer .entry))) ⌝ }
+{
+    let mut place = 0;
+    while place < RECORD_WORDS {
+        write_word(buffer, at + 4 * place, stored.words[place]);
+        place += 1;
+    }
+}
+
+// Writes a record as its 76 bytes, at `index` among records of so many. Where there is no room for it, nothing is
+// written.
+pub fn write_record(buffer: &mut [u8], index: usize, stored: Record)
+    ensures { λ _. ⌜ now (buffer .exit) ≡ withRecord (now (buffer .entry)) index stored ⌝ }
+{
+    if index < buffer.len() / RECORD_BYTES {
+        write_words(buffer, RECORD_BYTES * index, stored);
+    }
 }

@@ -1,0 +1,162 @@
+-- Encoding undoes decoding, and decoding undoes encoding: of a word, of a record and of a file.
+-- word-back: a word is read back from its four bytes. bytes-back: four bytes are those of their word.
+-- record-back: a record is read back from its bytes. bytes-of-record: the 76 bytes that a record is read from are its own.
+-- file-back: records are read back from their file. bytes-of-file: a file of whole records is the file of its records.
+-- record-length, file-length: a record has 76 bytes, and a file has as many for each.
+-- bytes-more, words-length: the bytes of one part more, and of words there are four for each.
+use mathlib.Core.Path.{_≡_, refl, sym, ap, ap₂, _∙_}
+use mathlib.Core.List.{List, [], _∷_, _++_, append-assoc, append-nil}
+use Prim.Native.Nat.{ℕ, zero, suc, _+_, _*_, _/_, _%_, _^_, _≤_, _<_}
+use native.Mathlib.Nat.{not-suc-le-zero, le-of-suc-le-suc, mul-suc, mul-zero, add-comm}
+use native.Mathlib.Omega.{arith}
+use lib.ListN.{length, getD, take, drop, length-append, length-drop}
+use lib.Seq.{take-all, take-add, drop-at}
+use Rattle.records.specs.declared.Record.{Record}
+use Rattle.records.specs.Record.{perRecord}
+use Rattle.records.specs.File.{recordBytes, wordIn, partsIn, wordsIn, recordIn, recordsOf, bytesOfWord, bytesOfParts, bytesOfWords, bytesOf, fileOf}
+
+-- ---- what holds of each element of a list
+
+abbrev pub Each : {A : Type 0} → (A → Type 0) → List A → Type 0
+Each P [] = Unit {0}
+Each P (a ∷ rest) = P a × Each P rest
+
+abbrev pub Below : ℕ → List ℕ → Type 0
+Below bound xs = Each (λ (x : ℕ). x < bound) xs
+
+-- a record as code has it: 19 words of 32 bits
+abbrev pub Whole : Record → Type 0
+Whole r = (length (r .words) ≡ perRecord) × Below (2 ^ 32) (r .words)
+
+each-of : {A : Type 0} {P : A → Type 0} → ((a : A) → P a) → (xs : List A) → Each P xs
+each-of holds [] = tt
+each-of holds (x ∷ xs) = (holds x, each-of holds xs)
+
+below-drop : (bound n : ℕ) (xs : List ℕ) → Below bound xs → Below bound (drop n xs)
+below-drop bound zero xs below = below
+below-drop bound (suc n) [] below = below
+below-drop bound (suc n) (x ∷ xs) below = below-drop bound n xs (below .1)
+
+-- ---- parts
+
+-- the bytes of one part more
+pub bytes-more : {A : Type 0} (write : A → List ℕ) (parts : List A) (i : ℕ) (d : A) → i < length parts
+    → bytesOfParts write (take (suc i) parts) ≡ bytesOfParts write (take i parts) ++ write (getD parts i d)
+unfolding bytesOfParts
+bytes-more write [] i d h = absurd (not-suc-le-zero h)
+bytes-more write (p ∷ ps) zero d h = append-nil (write p)
+bytes-more write (p ∷ ps) (suc i) d h =
+    ap (λ (bytes : List ℕ). write p ++ bytes) (bytes-more write ps i d (le-of-suc-le-suc h))
+    ∙ sym (append-assoc (write p) (bytesOfParts write (take i ps)) (write (getD ps i d)))
+
+module _ {A : Type 0} (size : ℕ) (write : A → List ℕ) (Fit : A → Type 0) (sized : (a : A) → Fit a → length (write a) ≡ size) where
+  bytes-length : (parts : List A) → Each Fit parts → length (bytesOfParts write parts) ≡ size * length parts
+  unfolding bytesOfParts
+  bytes-length [] fit = sym (mul-zero size)
+  bytes-length (p ∷ ps) fit =
+      length-append (write p) (bytesOfParts write ps)
+      ∙ ap₂ (λ (m n : ℕ). m + n) (sized p (fit .0)) (bytes-length ps (fit .1))
+      ∙ add-comm size (size * length ps)
+      ∙ sym (mul-suc size (length ps))
+
+  -- where each part is read back from its bytes, so are they all
+  parts-back : (read : List ℕ → A) → ((a : A) (rest : List ℕ) → Fit a → read (write a ++ rest) ≡ a)
+      → (parts : List A) (rest : List ℕ) → Each Fit parts → partsIn size read (length parts) (bytesOfParts write parts ++ rest) ≡ parts
+  unfolding bytesOfParts partsIn
+  parts-back read back [] rest fit = refl
+  parts-back read back (p ∷ ps) rest fit =
+      let after = bytesOfParts write ps ++ rest in
+      ap (partsIn size read (suc (length ps))) (append-assoc (write p) (bytesOfParts write ps) rest)
+      ∙ ap₂ (λ (q : A) (qs : List A). q ∷ qs)
+      (back p after (fit .0))
+      (ap (partsIn size read (length ps)) (drop-at (write p) after size (sized p (fit .0))) ∙ parts-back read back ps rest (fit .1))
+
+-- where the bytes that a part is read from are its own, so are those of them all
+parts-again : {A : Type 0} (size : ℕ) (read : List ℕ → A) (write : A → List ℕ)
+    → ((bytes : List ℕ) → size ≤ length bytes → Below 256 bytes → write (read bytes) ≡ take size bytes)
+    → (n : ℕ) (bytes : List ℕ) → size * n ≤ length bytes → Below 256 bytes → bytesOfParts write (partsIn size read n bytes) ≡ take (size * n) bytes
+unfolding bytesOfParts partsIn
+parts-again size read write again zero bytes room small = ap (λ (m : ℕ). take m bytes) (sym (mul-zero size))
+parts-again size read write again (suc n) bytes room small =
+    let next : size * suc n ≡ size + size * n = mul-suc size n ∙ add-comm (size * n) size in
+    let left : size * n ≤ length (drop size bytes) = omega (arith, length-drop size bytes) in
+    ap₂ (λ (xs ys : List ℕ). xs ++ ys)
+    (again bytes (omega arith) small)
+    (parts-again size read write again n (drop size bytes) left (below-drop 256 size bytes small))
+    ∙ sym (take-add size (size * n) bytes)
+    ∙ ap (λ (m : ℕ). take m bytes) (sym next)
+
+-- ---- words
+
+-- a quotient by a power of 256 is one by 256 again
+quotients : (w : ℕ) → (w / 65536 ≡ w / 256 / 256) × (w / 16777216 ≡ w / 65536 / 256)
+quotients w = (omega arith, omega arith)
+
+pub word-back : (w : ℕ) (rest : List ℕ) → w < 2 ^ 32 → wordIn (bytesOfWord w ++ rest) ≡ w
+unfolding wordIn bytesOfWord
+word-back w rest h =
+    let last : w / 16777216 / 256 ≡ 0 = omega arith in
+    omega (arith, quotients w .0, quotients w .1)
+
+pub bytes-back : (a b c d : ℕ) (rest : List ℕ) → a < 256 → b < 256 → c < 256 → d < 256
+    → bytesOfWord (wordIn (a ∷ b ∷ c ∷ d ∷ rest)) ≡ a ∷ b ∷ c ∷ d ∷ []
+unfolding wordIn bytesOfWord
+bytes-back a b c d rest ha hb hc hd =
+    let w = a + 256 * b + 65536 * c + 16777216 * d in
+    let from-b : w / 256 ≡ b + 256 * c + 65536 * d = omega arith in
+    let from-c : w / 65536 ≡ c + 256 * d = omega arith in
+    let from-d : w / 16777216 ≡ d = omega arith in
+    let last : w / 16777216 / 256 ≡ 0 = omega arith in
+    let is-a : w % 256 ≡ a = omega arith in
+    let is-b : w / 256 % 256 ≡ b = omega (arith, quotients w .0) in
+    let is-c : w / 65536 % 256 ≡ c = omega (arith, quotients w .1) in
+    let is-d : w / 16777216 % 256 ≡ d = omega arith in
+    rw (is-a, is-b, is-c, is-d)
+
+bytes-of-word : (bytes : List ℕ) → 4 ≤ length bytes → Below 256 bytes → bytesOfWord (wordIn bytes) ≡ take 4 bytes
+bytes-of-word [] room small = absurd (omega arith)
+bytes-of-word (a ∷ []) room small = absurd (omega arith)
+bytes-of-word (a ∷ b ∷ []) room small = absurd (omega arith)
+bytes-of-word (a ∷ b ∷ c ∷ []) room small = absurd (omega arith)
+bytes-of-word (a ∷ b ∷ c ∷ d ∷ rest) room small = bytes-back a b c d rest (small .0) (small .1 .0) (small .1 .1 .0) (small .1 .1 .1 .0)
+
+word-length : (w : ℕ) → length (bytesOfWord w) ≡ 4
+unfolding bytesOfWord
+word-length w = refl
+
+pub words-length : (words : List ℕ) → length (bytesOfWords words) ≡ 4 * length words
+words-length words = bytes-length 4 bytesOfWord (λ (w : ℕ). length (bytesOfWord w) ≡ 4) (λ w h. h) words (each-of word-length words)
+
+-- ---- records
+
+pub record-length : (r : Record) → length (r .words) ≡ perRecord → length (bytesOf r) ≡ recordBytes
+unfolding bytesOf
+record-length r all = omega (arith, words-length (r .words))
+
+pub record-back : (r : Record) (rest : List ℕ) → length (r .words) ≡ perRecord → Below (2 ^ 32) (r .words) → recordIn (bytesOf r ++ rest) ≡ r
+unfolding recordIn bytesOf
+record-back r rest all small =
+    ap (λ (n : ℕ). record { words = wordsIn n (bytesOfWords (r .words) ++ rest) }) (sym all)
+    ∙ ap (λ (words : List ℕ). record { words = words })
+    (parts-back 4 bytesOfWord (λ (w : ℕ). w < 2 ^ 32) (λ w h. word-length w) wordIn word-back (r .words) rest small)
+
+pub bytes-of-record : (bytes : List ℕ) → recordBytes ≤ length bytes → Below 256 bytes → bytesOf (recordIn bytes) ≡ take recordBytes bytes
+unfolding recordIn bytesOf
+bytes-of-record bytes room small = parts-again 4 wordIn bytesOfWord bytes-of-word perRecord bytes room small
+
+-- ---- files
+
+pub file-length : (rs : List Record) → Each (λ (r : Record). length (r .words) ≡ perRecord) rs → length (fileOf rs) ≡ recordBytes * length rs
+file-length rs all = bytes-length recordBytes bytesOf (λ (r : Record). length (r .words) ≡ perRecord) record-length rs all
+
+pub file-back : (rs : List Record) → Each Whole rs → recordsOf (fileOf rs) ≡ rs
+file-back rs whole =
+    let sized : (r : Record) → Whole r → length (bytesOf r) ≡ recordBytes = λ r h. record-length r (h .0) in
+    let many : length (fileOf rs) / recordBytes ≡ length rs = omega (arith, bytes-length recordBytes bytesOf Whole sized rs whole) in
+    ap₂ (partsIn recordBytes recordIn) many (sym (append-nil (fileOf rs)))
+    ∙ parts-back recordBytes bytesOf Whole sized recordIn (λ r rest h. record-back r rest (h .0) (h .1)) rs [] whole
+
+pub bytes-of-file : (file : List ℕ) → length file % recordBytes ≡ 0 → Below 256 file → fileOf (recordsOf file) ≡ file
+bytes-of-file file multiple small =
+    let n = length file / recordBytes in
+    parts-again recordBytes recordIn bytesOf bytes-of-record n file (omega arith) small ∙ take-all (recordBytes * n) file (omega arith)
