@@ -1,6 +1,7 @@
 -- Demand 3: within a tick planners and goal setters may call in any order, with repeats and refused calls.
 --     any-order: a tick's calls, up to the first close that is accepted, come to what the canonical run comes to
 --     standing-plans: each plan among them that is accepted is demand 2's, on the records as they stood at the opening
+--     standing-kept: the records that stand after any of them are those at the opening
 --     any-order-dropped: the same for calls that end in drop: nobody is moved, and the accepted goal calls are taken up
 --     order-unseen: two runs of one opening with the same accepted goal calls close to the same table
 --     refused-unseen: what a refused call said has no effect on anything after it
@@ -235,6 +236,16 @@ module _ (fleet : Fleet) (timeStep : Float) (rule : Rule) (whole : Whole fleet) 
       let start = opening (agents fleet) timeStep rule few in
       let led = calls-lead (agents fleet) timeStep rule few calls [] start (opened-right (agents fleet) timeStep rule few) still′ in
       plan-here (agents fleet) timeStep rule few (goalsOf start calls) _ led index scratch takes)
+      still
+
+  -- the records that stand are those at the opening
+  pub standing-kept : (calls : List Call) → staysOpen opened calls ≡ true → agents (after opened calls) ≡ agents fleet
+  standing-kept calls still =
+      subst (λ (start : Fleet). staysOpen start calls ≡ true → agents (after start calls) ≡ agents fleet) (sym same-opening)
+      (λ still′.
+      let start = opening (agents fleet) timeStep rule few in
+      let led = calls-lead (agents fleet) timeStep rule few calls [] start (opened-right (agents fleet) timeStep rule few) still′ in
+      ap agents (led .is) ∙ agents-are (agents fleet) timeStep rule few (led .plans) (holdAll nothingHeld (goalsOf start calls)))
       still
 
   -- drop moves nobody, and the accepted goal calls are taken up in their order

@@ -36,6 +36,7 @@ use Rattle.fleet.specs.declared.Fleet.{Fleet}
 use Rattle.fleet.specs.Answer.{number}
 use Rattle.fleet.specs.Table.{agents, nothingHeld, standingOf, settled, shut, hasAgent, addVerdict, addCall, putVerdict, putCall, removeVerdict, removeCall, readCall}
 use Rattle.fleet.specs.Load.{loadVerdict, loadCall}
+use Rattle.fleet.specs.Save.{saveCall}
 use Rattle.fleet.specs.Tick.{openVerdict, openCall, goalVerdict, withHeld, holdGoal, goalSet, goalCall, ended, hasPlan, unplanned, astray, arrivals, allMoved, closeVerdict, closeOpen, closeIn, closeCall, opened, dropCall}
 use Rattle.fleet.specs.Plan.{requestFor, ownRecord, neighbourIndices, neighboursOf, replyFor, plansAfter, fleetAfter, answeredBy, planOpen, planIn, planCall}
 use Rattle.fleet.specs.Calls.{Call, step}
@@ -185,8 +186,9 @@ module _ (rs : List Record) (timeStep : Float) (rule : Rule) (few : length rs �
   any-call : (plans : List Slot) (gs : List (ℕ × Vec3)) → Plans plans → allFit (length rs) gs ≡ true → (call : Call)
       → stays (state plans (holdAll nothingHeld gs)) call ≡ true
       → Reached (gs ++ goalIn (state plans (holdAll nothingHeld gs)) call) (step (state plans (holdAll nothingHeld gs)) call .fleet)
-  unfolding goalIn stays step state loadCall loadVerdict addCall addVerdict putCall putVerdict removeCall removeVerdict readCall openCall openVerdict planCall planIn settled shut
+  unfolding goalIn stays step state loadCall loadVerdict saveCall addCall addVerdict putCall putVerdict removeCall removeVerdict readCall openCall openVerdict planCall planIn settled shut
   any-call plans gs ok fits (Call.load file) h = unchanged plans gs _ ok fits refl
+  any-call plans gs ok fits (Call.save buffer) h = unchanged plans gs _ ok fits refl
   any-call plans gs ok fits (Call.add words) h = unchanged plans gs _ ok fits refl
   any-call plans gs ok fits (Call.put index words) h = unchanged plans gs _ ok fits refl
   any-call plans gs ok fits (Call.remove index) h = unchanged plans gs _ ok fits refl

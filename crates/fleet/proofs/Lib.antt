@@ -12,3 +12,4 @@ pub mod AnyOrder
 pub mod Storing
 pub mod Sound
 pub mod PassesOn
+pub mod SaveLoad

@@ -57,7 +57,7 @@ load-read-word fleet file k j e h within =
 
 -- ---- a reader over the same file
 
-load-passed : (fleet : Fleet) (file : List ℕ) → loadCall fleet file .answer ≡ Done → fileVerdict file ≡ Passed
+pub load-passed : (fleet : Fleet) (file : List ℕ) → loadCall fleet file .answer ≡ Done → fileVerdict file ≡ Passed
 unfolding loadCall loadVerdict
 load-passed fleet file e =
     both-passed (shut (fleet .tick)) (fileVerdict file) (settled-passes (shut (fleet .tick) ⊳ fileVerdict file) fleet (loaded file) (ap number e)) .1

@@ -1,5 +1,6 @@
 -- Each refusal of a table call is given exactly when document 01 says, and leaves the table as it was.
---     refused-8 … refused-15: answer N if and only if N's condition is the first that holds; `exactly` says it of every number
+--     refused-8 … refused-16: answer N if and only if N's condition is the first that holds; `exactly` says it of every number
+--     refused-16-place: its place is the bytes that a save needs
 --     same-inputs-refused: the plans refused with 1 or 17 are those that document 01's 1 named, and those refused with 18 or 7 those that its 7 named
 --     refused-zeros: a refused velocity is three zeros
 --     refused-unchanged: a call that is refused hands back the very fleet that it was given, whichever call it is
@@ -24,7 +25,7 @@ use Rattle.refusals.specs.declared.Verdict.{Verdict}
 use Rattle.refusals.specs.declared.Verdict.the-variants.{Passed, Refused}
 use Rattle.refusals.specs.Refusal as refusals
 use Rattle.refusals.specs.Conditions.{firstHolding, First, isFound, some, marked, firstBad}
-use Rattle.refusals.specs.Verdict.{_⊳_, refusedAt}
+use Rattle.refusals.specs.Verdict.{_⊳_, refusedIf, refusedAt}
 use Rattle.refusals.proofs.Conditions.{no-place, indexOf, orElse, holding-append, foundAs}
 use Rattle.refusals.proofs.Verdicts.{said, Says, then, held-says, tested-says, found-says}
 use Rattle.avoidance.specs.declared.Reply.{Reply}
@@ -47,9 +48,10 @@ use Rattle.fleet.specs.declared.Slot.{Slot}
 use Rattle.fleet.specs.declared.Tick.{Tick}
 use Rattle.fleet.specs.declared.Tick.the-variants.{Shut, Open}
 use Rattle.fleet.specs.declared.Fleet.{Fleet}
-use Rattle.fleet.specs.Answer.{number, velocityOf}
+use Rattle.fleet.specs.Answer.{number, placeOf, velocityOf}
 use Rattle.fleet.specs.Table.{agents, settled, shut, hasAgent, room, addVerdict, addCall, putVerdict, putCall, removeVerdict, removeCall, answerTo, readCall}
 use Rattle.fleet.specs.Load.{loadVerdict, loadCall}
+use Rattle.fleet.specs.Save.{neededBytes, shortBuffer, saveVerdict, saveCall}
 use Rattle.fleet.specs.Tick.{stepVerdict, openCall, goalFault, goalVerdict, goalCall, unplanned, astray, arrivals, openVerdict, closeVerdict, closeOpen, closeIn, closeCall, opened, dropCall}
 use Rattle.fleet.specs.Plan.{requestFor, ownRecord, neighbourIndices, neighboursOf, replyFor, plansAfter, fleetAfter, answeredBy, planOpen, planIn, planCall}
 use Rattle.fleet.specs.Calls.{Call, step, isOpen, noAgent, planConditions, closeConditions, callConditions}
@@ -163,8 +165,12 @@ shut-then : (tick : Tick) (fleet next : Fleet) (v : Verdict) (cs : List (ℕ × 
 shut-then tick fleet next v cs e = settled-says (shut tick ⊳ v) fleet next _ (then (shut tick) v ((10, isOpen tick) ∷ []) cs (shut-says tick) e)
 
 pub call-says : (fleet : Fleet) (call : Call) → refusalIn (step fleet call .answer) ≡ firstHolding (callConditions fleet call)
-unfolding step callConditions loadCall loadVerdict addCall addVerdict putCall putVerdict removeCall removeVerdict readCall goalCall goalVerdict openCall openVerdict planCall closeCall dropCall
+unfolding step callConditions loadCall loadVerdict saveCall saveVerdict addCall addVerdict putCall putVerdict removeCall removeVerdict readCall goalCall goalVerdict openCall openVerdict planCall closeCall dropCall
 call-says fleet (Call.load file) = shut-then (fleet .tick) fleet _ (fileVerdict file) (fileConditions file) (file-says file)
+call-says fleet (Call.save buffer) =
+    let short = shortBuffer fleet (length buffer) in
+    let why = refusal.ShortBuffer (neededBytes fleet) in
+    read-says (refusedIf short why) ((16, short) ∷ []) (held-says short why)
 call-says fleet (Call.add words) =
     let r : Record = record { words = words } in
     let count = length (agents fleet) in
@@ -227,6 +233,22 @@ refused-14 = exactly 13
 pub refused-15 : Exactly 15
 refused-15 = exactly 14
 
+pub refused-16 : Exactly 16
+refused-16 = exactly 15
+
+-- its place is the bytes needed
+pub refused-16-place : (fleet : Fleet) (buffer : List ℕ) → number (step fleet (Call.save buffer) .answer) ≡ 16
+    → placeOf (step fleet (Call.save buffer) .answer) ≡ neededBytes fleet
+unfolding step saveCall saveVerdict answerTo
+refused-16-place fleet buffer = go (shortBuffer fleet (length buffer))
+  where
+    answerIf : Bool → Answer
+    answerIf short = answerTo (refusedIf short (refusal.ShortBuffer (neededBytes fleet)))
+
+    go : (short : Bool) → number (answerIf short) ≡ 16 → placeOf (answerIf short) ≡ neededBytes fleet
+    go true e = refl
+    go false e = absurd (omega arith)
+
 -- ---- 17 and 18 refuse the plans that document 01's 1 and 7 refused
 
 held-before : (n : ℕ) (b : Bool) (cs : List (ℕ × Bool)) → firstHolding ((n, b) ∷ cs) ≡ orElse (firstHolding ((n, b) ∷ [])) (firstHolding cs)
@@ -284,8 +306,9 @@ close-kept Shut fleet refused = settled-kept _ fleet fleet refused
 close-kept (Open timeStep rule) fleet refused = settled-kept _ fleet _ refused
 
 pub refused-unchanged : (fleet : Fleet) (call : Call) → (number (step fleet call .answer) ≡ 0 → ⊥) → step fleet call .fleet ≡ fleet
-unfolding step loadCall addCall putCall removeCall readCall goalCall openCall planCall closeCall dropCall
+unfolding step loadCall saveCall addCall putCall removeCall readCall goalCall openCall planCall closeCall dropCall
 refused-unchanged fleet (Call.load file) refused = settled-kept _ fleet _ refused
+refused-unchanged fleet (Call.save buffer) refused = refl
 refused-unchanged fleet (Call.add words) refused = settled-kept _ fleet _ refused
 refused-unchanged fleet (Call.put index words) refused = settled-kept _ fleet _ refused
 refused-unchanged fleet (Call.remove index) refused = settled-kept _ fleet _ refused

@@ -27,6 +27,7 @@ use Rattle.fleet.specs.declared.Tick.the-variants.{Shut, Open}
 use Rattle.fleet.specs.declared.Fleet.{Fleet}
 use Rattle.fleet.specs.Table.{agents, standingOf, holdingNothing, fleetOf, settled, shut, hasAgent, room, addVerdict, added, addCall, putVerdict, withRecord, putCall, removed, removeCall, readCall}
 use Rattle.fleet.specs.Load.{loadVerdict, loaded, loadCall}
+use Rattle.fleet.specs.Save.{saveCall}
 use Rattle.fleet.specs.Tick.{stepVerdict, openVerdict, openCall, goalVerdict, holdGoal, goalSet, goalCall, goalTaken, goalsTaken, ended, movedBy, allMoved, closeVerdict, closeOpen, closeIn, closeCall, dropCall}
 use Rattle.fleet.specs.Plan.{replyFor, fleetAfter, answeredBy, planOpen, planIn, planCall}
 use Rattle.fleet.specs.Calls.{Call, step}
@@ -167,8 +168,9 @@ module _ (fleet : Fleet) (sound : Sound fleet) where
 -- ---- every call
 
 pub sound-kept : (fleet : Fleet) (call : Call) → Sound fleet → Typed call → Sound (step fleet call .fleet)
-unfolding step loadCall addCall putCall removeCall readCall goalCall openCall planCall closeCall dropCall
+unfolding step loadCall saveCall addCall putCall removeCall readCall goalCall openCall planCall closeCall dropCall
 sound-kept fleet (Call.load file) sound typed = sound-settled _ fleet _ sound (load-sound fleet sound file)
+sound-kept fleet (Call.save buffer) sound typed = sound
 sound-kept fleet (Call.add words) sound typed = sound-settled _ fleet _ sound (add-sound fleet sound (record { words = words }) typed)
 sound-kept fleet (Call.put index words) sound typed = sound-settled _ fleet _ sound (put-sound fleet sound index (record { words = words }) typed)
 sound-kept fleet (Call.remove index) sound typed = sound-settled _ fleet _ sound (λ e. remove-sound fleet sound index)

@@ -21,6 +21,7 @@ use Rattle.fleet.specs.declared.Fleet.{Fleet}
 use Rattle.fleet.specs.declared.Called.{Called}
 use Rattle.fleet.specs.Table.{agents, addCall, putCall, removeCall, readCall}
 use Rattle.fleet.specs.Load.{loadCall}
+use Rattle.fleet.specs.Save.{shortBuffer, saveCall}
 use Rattle.fleet.specs.Tick.{unplanned, astray, arrivals, openCall, goalCall, closeCall, dropCall}
 use Rattle.fleet.specs.Plan.{requestFor, ownRecord, neighboursOf, planCall}
 
@@ -29,6 +30,7 @@ use Rattle.fleet.specs.Plan.{requestFor, ownRecord, neighboursOf, planCa
 -- `start` is the call open
 pub data Call : Type 0 where
   load : List ℕ → Call
+  save : List ℕ → Call
   add : List ℕ → Call
   put : ℕ → List ℕ → Call
   remove : ℕ → Call
@@ -41,6 +43,7 @@ pub data Call : Type 0 where
 
 unfoldable pub step : Fleet → Call → Called
 step fleet (load file) = loadCall fleet file
+step fleet (save buffer) = record { answer = saveCall fleet (length buffer) .answer; fleet = saveCall fleet (length buffer) .fleet }
 step fleet (add words) = addCall fleet words
 step fleet (put index words) = putCall fleet index words
 step fleet (remove index) = removeCall fleet index
@@ -73,9 +76,10 @@ closeConditions (Open timeStep rule) fleet =
     ∷ (13, some (marked astray 0 (arrivals timeStep (agents fleet) (fleet .plans))))
     ∷ []
 
--- document 01's, in its order: 10 or 11 first, then 8 or 9 or 14, then record checks 15, 3, 4, 5, then 12 before 13, or plan's own
+-- document 01's, in its order: 10 or 11 first, then 8 or 9 or 14, then record checks 15, 3, 4, 5, then 12 before 13, or plan's own; save's is 16 alone
 unfoldable pub callConditions : Fleet → Call → List (ℕ × Bool)
 callConditions fleet (load file) = (10, isOpen (fleet .tick)) ∷ fileConditions file
+callConditions fleet (save buffer) = (16, shortBuffer fleet (length buffer)) ∷ []
 callConditions fleet (add words) = (10, isOpen (fleet .tick)) ∷ (9, leb mostAgents (length (agents fleet))) ∷ recordConditions (record { words = words })
 callConditions fleet (put index words) = (10, isOpen (fleet .tick)) ∷ (8, noAgent fleet index) ∷ recordConditions (record { words = words })
 callConditions fleet (remove index) = (10, isOpen (fleet .tick)) ∷ (8, noAgent fleet index) ∷ []

@@ -2,6 +2,7 @@
 pub mod Answer
 pub mod Table
 pub mod Load
+pub mod Save
 pub mod Tick
 pub mod Plan
 pub mod Calls

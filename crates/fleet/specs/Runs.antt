@@ -32,6 +32,7 @@ accepted fleet call = eqb (number (step fleet call .answer)) 0
 -- a call leaves an open tick open unless it is drop, or a close that is accepted
 unfoldable pub stays : Fleet → Call → Bool
 stays fleet (Call.load file) = true
+stays fleet (Call.save buffer) = true
 stays fleet (Call.add words) = true
 stays fleet (Call.put index words) = true
 stays fleet (Call.remove index) = true
@@ -51,6 +52,7 @@ staysOpen fleet (call ∷ calls) = stays fleet call && staysOpen (step fleet cal
 -- a goal call's index and goal, where it is accepted
 unfoldable pub goalIn : Fleet → Call → List (ℕ × Vec3)
 goalIn fleet (Call.load file) = []
+goalIn fleet (Call.save buffer) = []
 goalIn fleet (Call.add words) = []
 goalIn fleet (Call.put index words) = []
 goalIn fleet (Call.remove index) = []

@@ -58,6 +58,7 @@ pub record Sound (fleet : Fleet) : Type 0 where
 
 abbrev pub Typed : Call → Type 0
 Typed (Call.load file) = Unit {0}
+Typed (Call.save buffer) = Unit {0}
 Typed (Call.add words) = length words ≡ perRecord
 Typed (Call.put index words) = length words ≡ perRecord
 Typed (Call.remove index) = Unit {0}

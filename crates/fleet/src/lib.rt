@@ -4,6 +4,7 @@
 pub mod answers;
 pub mod loading;
 pub mod plan;
+pub mod saving;
 pub mod table;
 pub mod ticks;
 
@@ -64,6 +65,13 @@ pub struct Fleet {
 pub struct Called {
     pub answer: Answer,
     pub fleet: Fleet,
+}
+
+// What the call save hands back: the fleet that was given, and how many bytes it wrote. Refused, none.
+pub struct Saved {
+    pub answer: Answer,
+    pub fleet: Fleet,
+    pub bytes: usize,
 }
 
 // What the call read hands back. Refused, the words are zeros.

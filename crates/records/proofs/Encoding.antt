@@ -2,18 +2,28 @@
 -- word-back: a word is read back from its four bytes. bytes-back: four bytes are those of their word.
 -- record-back: a record is read back from its bytes. bytes-of-record: the 76 bytes that a record is read from are its own.
 -- file-back: records are read back from their file. bytes-of-file: a file of whole records is the file of its records.
--- record-length, file-length: a record has 76 bytes, and a file has as many for each.
+-- record-length, file-length, whole-length: a record has 76 bytes, and a file has as many for each.
 -- bytes-more, words-length: the bytes of one part more, and of words there are four for each.
+-- file-passes: records that each pass are a file that does. passed-again: a file that passed is the file of its records.
+-- file-none, file-more: no records have no bytes, and a record written after those before it is one record more.
 use mathlib.Core.Path.{_≡_, refl, sym, ap, ap₂, _∙_}
 use mathlib.Core.List.{List, [], _∷_, _++_, append-assoc, append-nil}
 use Prim.Native.Nat.{ℕ, zero, suc, _+_, _*_, _/_, _%_, _^_, _≤_, _<_}
 use native.Mathlib.Nat.{not-suc-le-zero, le-of-suc-le-suc, mul-suc, mul-zero, add-comm}
 use native.Mathlib.Omega.{arith}
+use borrow.Author.Tests.{lt-ltb}
 use lib.ListN.{length, getD, take, drop, length-append, length-drop}
-use lib.Seq.{take-all, take-add, drop-at}
+use lib.Seq.{take-all, take-add, take-at, drop-at, drop-drop}
+use Rattle.refusals.specs.declared.Verdict.{Verdict}
+use Rattle.refusals.specs.declared.Verdict.the-variants.{Passed}
+use Rattle.refusals.specs.Verdict.{_⊳_}
+use Rattle.refusals.proofs.Verdicts.{both-passed}
 use Rattle.records.specs.declared.Record.{Record}
-use Rattle.records.specs.Record.{perRecord}
-use Rattle.records.specs.File.{recordBytes, wordIn, partsIn, wordsIn, recordIn, recordsOf, bytesOfWord, bytesOfParts, bytesOfWords, bytesOf, fileOf}
+use Rattle.records.specs.Record.{mostAgents, perRecord, blank}
+use Rattle.records.specs.Checks.{recordVerdict}
+use Rattle.records.specs.File.{recordBytes, wordIn, partsIn, wordsIn, recordIn, recordsOf, wholeFile, recordsVerdict, fileVerdict, bytesOfWord, bytesOfParts, bytesOfWords, bytesOf, fileOf, withRecord}
+use Rattle.records.proofs.Within.{whole-passes, whole-multiple}
+use Rattle.records.proofs.Passed.{all-passed}
 
 -- ---- what holds of each element of a list
 
@@ -149,10 +159,15 @@ bytes-of-record bytes room small = parts-again 4 wordIn bytesOfWord bytes-of-wor
 pub file-length : (rs : List Record) → Each (λ (r : Record). length (r .words) ≡ perRecord) rs → length (fileOf rs) ≡ recordBytes * length rs
 file-length rs all = bytes-length recordBytes bytesOf (λ (r : Record). length (r .words) ≡ perRecord) record-length rs all
 
+sized : (r : Record) → Whole r → length (bytesOf r) ≡ recordBytes
+sized r h = record-length r (h .0)
+
+pub whole-length : (rs : List Record) → Each Whole rs → length (fileOf rs) ≡ recordBytes * length rs
+whole-length rs whole = bytes-length recordBytes bytesOf Whole sized rs whole
+
 pub file-back : (rs : List Record) → Each Whole rs → recordsOf (fileOf rs) ≡ rs
 file-back rs whole =
-    let sized : (r : Record) → Whole r → length (bytesOf r) ≡ recordBytes = λ r h. record-length r (h .0) in
-    let many : length (fileOf rs) / recordBytes ≡ length rs = omega (arith, bytes-length recordBytes bytesOf Whole sized rs whole) in
+    let many : length (fileOf rs) / recordBytes ≡ length rs = omega (arith, whole-length rs whole) in
     ap₂ (partsIn recordBytes recordIn) many (sym (append-nil (fileOf rs)))
     ∙ parts-back recordBytes bytesOf Whole sized recordIn (λ r rest h. record-back r rest (h .0) (h .1)) rs [] whole
 
@@ -160,3 +175,44 @@ pub bytes-of-file : (file : List ℕ) → length file % recordBytes ≡ 0 → Be
 bytes-of-file file multiple small =
     let n = length file / recordBytes in
     parts-again recordBytes recordIn bytesOf bytes-of-record n file (omega arith) small ∙ take-all (recordBytes * n) file (omega arith)
+
+-- ---- files that pass
+
+pub file-passes : (rs : List Record) → length rs ≤ mostAgents → Each Whole rs
+    → ((k : ℕ) → k < length rs → recordVerdict 0 (getD rs k blank) ≡ Passed) → fileVerdict (fileOf rs) ≡ Passed
+unfolding fileVerdict
+file-passes rs few whole passes =
+    let long = whole-length rs whole in
+    ap (λ (v : Verdict). v ⊳ recordsVerdict 0 (recordsOf (fileOf rs))) (whole-passes (length (fileOf rs)) (omega (arith, long)) (omega (arith, long)))
+    ∙ ap (recordsVerdict 0) (file-back rs whole)
+    ∙ all-passed 0 rs passes
+
+pub passed-again : (file : List ℕ) → fileVerdict file ≡ Passed → Below 256 file → fileOf (recordsOf file) ≡ file
+unfolding fileVerdict
+passed-again file e small =
+    bytes-of-file file (whole-multiple (length file) (both-passed (wholeFile (length file)) (recordsVerdict 0 (recordsOf file)) e .0)) small
+
+-- ---- a file written record by record, from the start of a buffer on
+
+pub file-none : fileOf [] ≡ []
+unfolding bytesOfParts
+file-none = refl
+
+pub file-more : (rs : List Record) (i : ℕ) (d : Record) (buffer : List ℕ) → i < length rs → length (fileOf (take i rs)) ≡ recordBytes * i
+    → recordBytes * suc i ≤ length buffer
+    → withRecord (fileOf (take i rs) ++ drop (recordBytes * i) buffer) i (getD rs i d) ≡ fileOf (take (suc i) rs) ++ drop (recordBytes * suc i) buffer
+unfolding withRecord
+file-more rs i d buffer there sized room =
+    let front = fileOf (take i rs) in
+    let back = drop (recordBytes * i) buffer in
+    let own = bytesOf (getD rs i d) in
+    let long : length (front ++ back) ≡ length buffer = length-append front back ∙ omega (arith, length-drop (recordBytes * i) buffer, sized) in
+    let next : recordBytes * i + recordBytes ≡ recordBytes * suc i = omega arith in
+    let rest : drop (recordBytes * i + recordBytes) (front ++ back) ≡ drop (recordBytes * suc i) buffer =
+    sym (drop-drop recordBytes (recordBytes * i) (front ++ back))
+    ∙ ap (drop recordBytes) (drop-at front back (recordBytes * i) sized)
+    ∙ drop-drop recordBytes (recordBytes * i) buffer
+    ∙ ap (λ (n : ℕ). drop n buffer) next in
+    let fits = lt-ltb i (length (front ++ back) / recordBytes) (omega (arith, long)) in
+    rw (fits, take-at front back (recordBytes * i) sized, rest, bytes-more bytesOf rs i d there)
+    (sym (append-assoc front own (drop (recordBytes * suc i) buffer)))

@@ -1,15 +1,16 @@
 -- What a record that passed is: finite, each number in its range, its fallback of length 1; and whether it passes does not depend on where it stands.
-use mathlib.Core.Path.{_≡_, ap, _∙_}
+use mathlib.Core.Path.{_≡_, refl, ap, _∙_}
 use mathlib.Core.Bool.{true, false}
 use mathlib.Core.List.{List, [], _∷_}
 use Prim.Native.Nat.{ℕ, zero, suc, _+_, _*_, _<_}
-use native.Mathlib.Nat.{not-suc-le-zero, le-of-suc-le-suc, zero-add}
+use native.Mathlib.Nat.{not-suc-le-zero, le-of-suc-le-suc, zero-lt-suc, zero-add}
 use native.Mathlib.Omega.{arith}
 use lib.ListN.{length, getD}
 use borrow.Author.Tests.{ne-eqb, not-false}
 use Rattle.vectors.specs.Number.{finite}
 use Rattle.refusals.specs.declared.Found.the-variants.{Nothing}
 use Rattle.refusals.specs.declared.Refusal.the-variants.{NotFinite, OutOfRange, BadFallback, BadMargin}
+use Rattle.refusals.specs.declared.Verdict.{Verdict}
 use Rattle.refusals.specs.declared.Verdict.the-variants.{Passed}
 use Rattle.refusals.specs.Conditions.{firstBad}
 use Rattle.refusals.specs.Verdict.{_⊳_, refusedIf, refusedAt}
@@ -66,6 +67,14 @@ each-passed start (r ∷ rs) (suc k) e h =
     let there : start + perRecord * suc k ≡ start + perRecord + perRecord * k = omega arith in
     ap (λ (place : ℕ). recordVerdict place (getD rs k blank)) there
     ∙ each-passed (start + perRecord) rs k (both-passed (recordVerdict start r) (recordsVerdict (start + perRecord) rs) e .1) (le-of-suc-le-suc h)
+
+-- and where each passes by itself, all do
+pub all-passed : (start : ℕ) (rs : List Record) → ((k : ℕ) → k < length rs → recordVerdict 0 (getD rs k blank) ≡ Passed) → recordsVerdict start rs ≡ Passed
+unfolding recordsVerdict
+all-passed start [] passes = refl
+all-passed start (r ∷ rs) passes =
+    ap (λ (v : Verdict). v ⊳ recordsVerdict (start + perRecord) rs) (fit-passed start r (passed-fit 0 r (passes 0 (zero-lt-suc (length rs)))))
+    ∙ all-passed (start + perRecord) rs (λ k h. passes (suc k) (omega (arith, h)))
 
 -- ---- its words
 

@@ -1,4 +1,4 @@
--- A bad word is one of the record's, and a file that passed has at most 64 records.
+-- A bad word is one of the record's, and a file passes as whole exactly where its bytes are those of at most 64 records.
 use mathlib.Core.Path.{_≡_}
 use mathlib.Core.Bool.{Bool, true, false, not, _&&_, cond}
 use mathlib.Core.List.{List}
@@ -6,7 +6,7 @@ use Prim.Native.Nat.{ℕ, _/_, _%_, _≤_, _<_}
 use native.Mathlib.Omega.{arith}
 use lib.Dec.{leb, eqb}
 use lib.ListN.{length}
-use borrow.Author.Tests.{leb-true}
+use borrow.Author.Tests.{leb-true, eqb-true, eq-eqb, le-leb}
 use Rattle.vectors.proofs.Truth.{both}
 use Rattle.refusals.specs.declared.Found.the-variants.{At, Nothing}
 use Rattle.refusals.specs.declared.Refusal.the-variants.{BadFile}
@@ -40,3 +40,14 @@ whole-passed bytes e =
     let whole = eqb (bytes % recordBytes) 0 in
     let few = leb (bytes / recordBytes) mostAgents in
     leb-true (bytes / recordBytes) mostAgents (both whole few (test-passed (whole && few) (BadFile bytes) e) .1)
+
+pub whole-multiple : (bytes : ℕ) → wholeFile bytes ≡ Passed → bytes % recordBytes ≡ 0
+unfolding wholeFile
+whole-multiple bytes e =
+    let whole = eqb (bytes % recordBytes) 0 in
+    let few = leb (bytes / recordBytes) mostAgents in
+    eqb-true (bytes % recordBytes) 0 (both whole few (test-passed (whole && few) (BadFile bytes) e) .0)
+
+pub whole-passes : (bytes : ℕ) → bytes % recordBytes ≡ 0 → bytes / recordBytes ≤ mostAgents → wholeFile bytes ≡ Passed
+unfolding wholeFile
+whole-passes bytes multiple few = rw (eq-eqb (bytes % recordBytes) 0 multiple, le-leb (bytes / recordBytes) mostAgents few)

@@ -34,6 +34,7 @@ not-answered (refusal.Unplanned agent) e = omega arith
 not-answered (refusal.PositionNotFinite agent) e = omega arith
 not-answered (refusal.BadFile bytes) e = omega arith
 not-answered (refusal.BadMargin place) e = omega arith
+not-answered (refusal.ShortBuffer needed) e = omega arith
 not-answered (refusal.TooManyNeighbours count) e = omega arith
 not-answered (refusal.BadClamp plane) e = omega arith
 

@@ -1,7 +1,7 @@
--- The documents' table of numbered answers: each refusal's number and place. Document 01 has 1 to 15, document 02 17 and 18.
+-- The documents' table of numbered answers: each refusal's number and place. Document 01 has 1 to 15, document 02 16 to 18.
 use Prim.Native.Nat.{ℕ}
 use Rattle.refusals.specs.declared.Refusal.{Refusal}
-use Rattle.refusals.specs.declared.Refusal.the-variants.{RaggedNeighbours, ShortScratch, NotFinite, OutOfRange, BadFallback, PlaneNotFinite, NoVelocity, NoAgent, Full, TickOpen, NoTick, Unplanned, PositionNotFinite, BadFile, BadMargin, TooManyNeighbours, BadClamp}
+use Rattle.refusals.specs.declared.Refusal.the-variants.{RaggedNeighbours, ShortScratch, NotFinite, OutOfRange, BadFallback, PlaneNotFinite, NoVelocity, NoAgent, Full, TickOpen, NoTick, Unplanned, PositionNotFinite, BadFile, BadMargin, ShortBuffer, TooManyNeighbours, BadClamp}
 
 abbrev pub number : Refusal → ℕ
 number RaggedNeighbours = 1
@@ -19,6 +19,7 @@ number (Unplanned agent) = 12
 number (PositionNotFinite agent) = 13
 number (BadFile bytes) = 14
 number (BadMargin place) = 15
+number (ShortBuffer needed) = 16
 number (TooManyNeighbours count) = 17
 number (BadClamp plane) = 18
 
@@ -38,5 +39,6 @@ placeOf (Unplanned agent) = agent
 placeOf (PositionNotFinite agent) = agent
 placeOf (BadFile bytes) = bytes
 placeOf (BadMargin place) = place
+placeOf (ShortBuffer needed) = needed
 placeOf (TooManyNeighbours count) = count
 placeOf (BadClamp plane) = plane

@@ -1,5 +1,5 @@
 // Why a call is refused, for every crate above: the documents' table of numbered answers, one case to each number, with
-// one row of number and place. Document 01 has 1 to 15, document 02 17 and 18. The definitions are in `specs/`.
+// one row of number and place. Document 01 has 1 to 15, document 02 16 to 18. The definitions are in `specs/`.
 ghost use mathlib.Core.Path.{_≡_};
 ghost use Rattle.refusals.specs.Refusal.{number, placeOf};
 
@@ -20,6 +20,7 @@ pub enum Refusal {
     PositionNotFinite { agent: usize },
     BadFile { bytes: usize },
     BadMargin { place: usize },
+    ShortBuffer { needed: usize },
     TooManyNeighbours { count: usize },
     BadClamp { plane: usize },
 }
@@ -57,6 +58,7 @@ impl Refusal {
             Refusal::PositionNotFinite { agent: _ } => 13,
             Refusal::BadFile { bytes: _ } => 14,
             Refusal::BadMargin { place: _ } => 15,
+            Refusal::ShortBuffer { needed: _ } => 16,
             Refusal::TooManyNeighbours { count: _ } => 17,
             Refusal::BadClamp { plane: _ } => 18,
         }
@@ -82,6 +84,7 @@ impl Refusal {
             Refusal::PositionNotFinite { agent } => agent,
             Refusal::BadFile { bytes } => bytes,
             Refusal::BadMargin { place } => place,
+            Refusal::ShortBuffer { needed } => needed,
             Refusal::TooManyNeighbours { count } => count,
             Refusal::BadClamp { plane } => plane,
         }
