@@ -43,7 +43,7 @@ use Rattle.fleet.proofs.HeldGoals.{slot, holdAll, applied, allFit, held
 use Rattle.fleet.proofs.Refusals.{refused-unchanged}
 use Rattle.fleet.proofs.InTick.{state, agents-are, due, Can, full, Reached, calls-lead, one-planned, accepted-close, closed, all-planned, plan-answer, dropped}
 
-after-append : (fleet : Fleet) (calls more : List Call) → after fleet (calls ++ more) ≡ after (after fleet calls) more
+pub after-append : (fleet : Fleet) (calls more : List Call) → after fleet (calls ++ more) ≡ after (after fleet calls) more
 unfolding after
 after-append fleet [] more = refl
 after-append fleet (call ∷ calls) more = after-append (step fleet call .fleet) calls more

@@ -9,6 +9,8 @@ pub mod HeldGoals
 pub mod Refusals
 pub mod InTick
 pub mod AnyOrder
+pub mod InTurn
+pub mod Resting
 pub mod Storing
 pub mod Sound
 pub mod PassesOn

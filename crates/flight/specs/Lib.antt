@@ -1,0 +1,2 @@
+-- A tick in one piece, as a definition over the fleet's calls.
+pub mod Tick
