@@ -2,66 +2,38 @@
 // data/root-binary32.txt, and document 01's four, in data/document-01.txt. It prints a line for each
 // pair, `argument wanted got same`, with `DIFFERENT` for `same` where the last two differ, and then
 // how many there were. A line that is no pair, and a file that can't be read whole, are said where
-// they stand, so that nothing is passed over in silence.
+// they stand, so that nothing is passed over in silence. The first write that fails ends the run.
+// `--help` (`help.rt`) says all this on one screen.
+mod help;
 mod pairs;
+mod report;
 
-use libc::STDOUT_FILENO;
+use console::arguments::ask_for_help;
+use console::inputs;
 use pairs::Line;
+use report::Tally;
+use report::one_more;
 use vectors::number::from_word;
 use vectors::number::to_word;
 use vectors::root::root;
 
-struct Tally {
-    pairs: u64,
-    different: u64,
-}
-
-fn say(text: &[u8]) {
-    io::write_all(STDOUT_FILENO, text);
-}
-
-fn say_word(word: u32) {
-    io::print_hex(STDOUT_FILENO, word as u64, 8);
-}
-
-// A count that is full stays so: no list is that long.
-fn one_more(count: u64) -> u64 {
-    if count < u64::MAX { count + 1 } else { count }
-}
+// The most bytes of a list, which `report` says too. There is room for one more, to know a longer one by.
+const MOST_BYTES: usize = 4096;
 
 fn run_pair(argument: u32, wanted: u32, tally: Tally) -> Tally {
     let got = to_word(root(from_word(argument)));
-    say_word(argument);
-    say(b" ");
-    say_word(wanted);
-    say(b" ");
-    say_word(got);
-    if got == wanted {
-        say(b" same\n");
-        Tally {
-            pairs: one_more(tally.pairs),
-            different: tally.different,
-        }
-    } else {
-        say(b" DIFFERENT\n");
-        Tally {
-            pairs: one_more(tally.pairs),
-            different: one_more(tally.different),
-        }
-    }
+    report::counted(
+        tally,
+        got == wanted,
+        report::say_pair(argument, wanted, got),
+    )
 }
 
 fn run_line(name: &[u8], number: u64, text: &[u8], tally: Tally) -> Tally {
     match pairs::read_line(text) {
         Line::Pair(argument, wanted) => run_pair(argument, wanted, tally),
         Line::Comment => tally,
-        Line::Malformed => {
-            say(name);
-            say(b": no pair of words in line ");
-            io::print_decimal(STDOUT_FILENO, number);
-            say(b"\n");
-            tally
-        }
+        Line::Malformed => report::after(tally, report::say_malformed(name, number)),
     }
 }
 
@@ -73,42 +45,52 @@ fn run_text(name: &[u8], text: &[u8], tally: Tally) -> Tally {
         let end = at + lines::length_until(&text[at..], b'\n');
         number = one_more(number);
         tally = run_line(name, number, &text[at..end], tally);
+        if !tally.goes_on {
+            return tally;
+        }
         at = end + 1;
     }
     tally
 }
 
+fn run_input(input: i32, name: &[u8], tally: Tally) -> Tally {
+    let mut space = [0u8; MOST_BYTES + 1];
+    let filled = inputs::fill(input, &mut space);
+    if filled.has_failed {
+        return report::after(tally, report::say_unreadable(name));
+    }
+    let bytes = filled.bytes;
+    if MOST_BYTES < bytes {
+        return report::after(tally, report::say_too_long(name));
+    }
+    run_text(name, &space[..bytes], tally)
+}
+
 fn run_file(name: &[u8], tally: Tally) -> Tally {
-    let file = os::open_read(name);
-    if file < 0 {
-        os::fail(name);
-        say(name);
-        say(b": can't be opened\n");
-        return tally;
+    let input = inputs::open(name);
+    if input < 0 {
+        return report::after(tally, report::say_unreadable(name));
     }
-    let mut text = io::buffer();
-    let n = io::read_full(file, &mut text);
-    // One more read answers 0 only where the whole file was read: it fails where one before it did.
-    let mut next = [0u8; 1];
-    let more = libc::read(file, &mut next);
-    libc::close(file);
-    if more != 0 {
-        say(name);
-        say(b": can't be read, or has more than 4096 bytes\n");
-        return tally;
+    let after = run_input(input, name, tally);
+    inputs::close(input, name);
+    after
+}
+
+fn run_files() -> Tally {
+    let published = run_file(b"root-binary32.txt", report::none());
+    if !published.goes_on {
+        return published;
     }
-    run_text(name, &text[..n], tally)
+    run_file(b"document-01.txt", published)
 }
 
 fn main() {
-    let none = Tally {
-        pairs: 0,
-        different: 0,
-    };
-    let published = run_file(b"root-binary32.txt", none);
-    let tally = run_file(b"document-01.txt", published);
-    io::print_decimal(STDOUT_FILENO, tally.pairs);
-    say(b" pairs, ");
-    io::print_decimal(STDOUT_FILENO, tally.different);
-    say(b" different\n");
+    if ask_for_help(os::arg_count()) {
+        help::say_help();
+        return;
+    }
+    let tally = run_files();
+    if tally.goes_on {
+        report::say_tally(tally);
+    }
 }

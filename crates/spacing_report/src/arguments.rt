@@ -50,25 +50,3 @@ pub(crate) fn is_at_most(number: Number, most: u64) -> bool {
         Number::Malformed => false,
     }
 }
-
-fn is_help_at(index: usize) -> bool {
-    let mut space = io::buffer();
-    let length = os::arg(index, &mut space);
-    check::same(&space[..length], b"--help")
-}
-
-// Whether `--help` stands anywhere among so many arguments.
-pub(crate) fn ask_for_help(count: usize) -> bool {
-    let mut index = 1;
-    while index < count {
-        if is_help_at(index) {
-            return true;
-        }
-        index += 1;
-    }
-    false
-}
-
-pub(crate) fn is_standard_input(name: &[u8]) -> bool {
-    check::same(name, b"-")
-}

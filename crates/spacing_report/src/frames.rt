@@ -1,6 +1,8 @@
 // Frames back to back, 12 bytes an agent, taken into a tally as they are read. Memory does not grow with them.
 ghost use Prim.Native.Nat.{_+_, _*_, _≤_, _<_};
 ghost use lib.ListN.{length};
+use console::Filled;
+use console::inputs;
 use spacing::Answer;
 use spacing::Refusal;
 use spacing::Report;
@@ -22,36 +24,12 @@ pub(crate) enum Outcome {
     Unreadable,
 }
 
-// How many bytes were read: fewer than asked for only at the end of an input, or where a read failed.
-struct Filled {
-    bytes: usize,
-    has_failed: bool,
-}
-
 // Fills the first `size` bytes of the space, but for the end of the input.
 fn fill(input: i32, space: &mut [u8], size: usize) -> Filled
     requires { ⌜ size ≤ length (now space) ⌝ }
     ensures { λ r. ⌜ r .bytes ≤ size ⌝ }
 {
-    let mut bytes = 0;
-    while bytes < size {
-        let got = libc::read(input, &mut space[bytes..size]);
-        if got < 0 {
-            return Filled {
-                bytes,
-                has_failed: true,
-            };
-        }
-        let more = io::count(got, &space[bytes..size]);
-        if more == 0 {
-            break;
-        }
-        bytes += more;
-    }
-    Filled {
-        bytes,
-        has_failed: false,
-    }
+    inputs::fill(input, &mut space[0..size])
 }
 
 // A little-endian word.
@@ -114,22 +92,14 @@ fn end(tally: Tally, rest: usize) -> Outcome {
     )
 }
 
-// With no agents every byte is one too many: all that is left to know is how many there are. No input has so many that
-// the loop ends by its test.
+// With no agents every byte is one too many: all that is left to know is how many there are.
 fn outcome_of_none(input: i32, tally: Tally) -> Outcome {
-    let mut space = io::large_buffer();
-    let mut total = 0;
-    while total <= usize::MAX - 65536 {
-        let filled = fill(input, &mut space, 65536);
-        if filled.has_failed {
-            return Outcome::Unreadable;
-        }
-        total += filled.bytes;
-        if filled.bytes < 65536 {
-            break;
-        }
+    let mut space = io::buffer();
+    let whole = inputs::read_whole(input, &mut space);
+    if whole.has_failed {
+        return Outcome::Unreadable;
     }
-    end(tally, total)
+    end(tally, whole.length)
 }
 
 // The bytes of as many whole frames as there is room for.

@@ -1,8 +1,8 @@
 // What `--help` prints: one screen, of 24 lines and 79 characters.
-use super::lines::write;
+use console::output::say;
 
 pub(crate) fn say_help() {
-    write(
+    say(
         b"usage: spacing_report AGENTS LIMIT [FILE ..]
 
 Says how near the agents of a recording came to each other, for each FILE in
@@ -25,8 +25,8 @@ The first frame that is refused ends its recording, with one line instead:
     refused 9 P frame F     a frame past the first P, 1048576
     refused 19 P frame F    number P of the frame is not from -16384 to 16384
 With 0 AGENTS any byte is refused by 14; over 64 give the line \"refused 9 64\".
-A bad argument, a file that can't be read and a write that fails are said on
-standard error.
+A file that can't be read gives the line \"unreadable\"; the reason, a bad
+argument and a write that fails, which ends the run, are on standard error.
 ",
     );
 }

@@ -3,8 +3,8 @@
 //
 //     spacing_report AGENTS LIMIT [FILE ..]     standard input, or each file in turn; `-` is standard input
 //
-// `--help` (`help.rt`) says what an input is and what is printed. What can't be done, as an argument that is no
-// number or a file that can't be read, is said on standard error.
+// `--help` (`help.rt`) says what an input is and what is printed. For a file that can't be read the line is `unreadable`.
+// Why, and an argument that is no number, is said on standard error. The first write that fails ends the run.
 mod arguments;
 mod frames;
 mod help;
@@ -14,17 +14,15 @@ ghost use Prim.Native.Nat.{_≤_};
 use arguments::Number;
 use arguments::is_at_most;
 use arguments::number_at;
+use console::inputs;
+use console::output;
+use console::output::complain;
 use frames::Outcome;
 use frames::outcome_of;
-use libc::STDERR_FILENO;
 use libc::STDIN_FILENO;
 use spacing::Tally;
 
-fn complain(text: &[u8]) {
-    io::write_all(STDERR_FILENO, text);
-}
-
-// A `report` answers whether to go on: always, but after a write that failed, which `lines` has said.
+// A `report` answers whether to go on: always, but after a write that failed, which `output` has said.
 
 fn report_input(input: i32, name: &[u8], tally: Tally, agents: usize, limit: u32) -> bool
     requires { ⌜ agents ≤ 64 ⌝ }
@@ -32,44 +30,27 @@ fn report_input(input: i32, name: &[u8], tally: Tally, agents: usize, limit: u32
     match outcome_of(input, tally, agents) {
         Outcome::Reported(report) => lines::say_report(report, limit),
         Outcome::Refused(answer, frame) => lines::say_refused_frame(answer, frame),
-        Outcome::Unreadable => {
-            os::fail(name);
-            true
-        }
+        Outcome::Unreadable => output::say_unreadable(name),
     }
 }
 
-fn report_file(name: &[u8], tally: Tally, agents: usize, limit: u32) -> bool
-    requires { ⌜ agents ≤ 64 ⌝ }
-{
-    let input = os::open_read(name);
-    if input < 0 {
-        os::fail(name);
-        return true;
-    }
-    let goes_on = report_input(input, name, tally, agents, limit);
-    libc::close(input);
-    goes_on
-}
-
+// An argument that is too long for a name is read as an empty one, which no file has.
 fn report_argument(index: usize, tally: Tally, agents: usize, limit: u32) -> bool
     requires { ⌜ agents ≤ 64 ⌝ }
 {
     let mut space = io::buffer();
     let length = os::arg(index, &mut space);
     let name = &space[..length];
-    if !lines::say_file(name) {
+    if !output::say_name(name) {
         return false;
     }
-    if length == 0 {
-        complain(b"spacing_report: a FILE is empty, or too long for a name\n");
-        return true;
+    let input = inputs::open(name);
+    if input < 0 {
+        return output::say_unreadable(name);
     }
-    if arguments::is_standard_input(name) {
-        report_input(STDIN_FILENO, b"standard input", tally, agents, limit)
-    } else {
-        report_file(name, tally, agents, limit)
-    }
+    let goes_on = report_input(input, name, tally, agents, limit);
+    inputs::close(input, name);
+    goes_on
 }
 
 fn report_all(tally: Tally, agents: usize, limit: u32, count: usize)
@@ -96,7 +77,7 @@ fn run(agents: usize, limit: u32, count: usize) {
     if agents <= 64 {
         report_all(tally, agents, limit, count);
     } else {
-        lines::say_refused(answer);
+        output::say_refused(answer.number(), answer.place());
     }
 }
 
@@ -115,7 +96,7 @@ fn run_numbers(agents: Number, limit: Number, count: usize) {
 
 fn main() {
     let count = os::arg_count();
-    if arguments::ask_for_help(count) {
+    if console::arguments::ask_for_help(count) {
         help::say_help();
         return;
     }

@@ -8,10 +8,11 @@ use super::answers::is_same;
 use super::cases::Case;
 use super::scratch::first_different;
 
-// What is different is the answer, or the number of scratch at an index: where scratch is as wanted, its length.
+// What is different is the answer that was got, or the number of scratch at an index: where scratch is as wanted, its
+// length.
 pub enum Judgement {
     Same,
-    Different(usize),
+    Different(Answer, usize),
 }
 
 pub(crate) fn judge(case: Case, wanted: Answer, got: Answer, scratch: &[f32]) -> Judgement
@@ -22,10 +23,10 @@ pub(crate) fn judge(case: Case, wanted: Answer, got: Answer, scratch: &[f32]) ->
     let planes = case.planes;
     let index = first_different(scratch, wanted.number, neighbours, &planes, case.fill);
     if index < scratch.len() {
-        return Judgement::Different(index);
+        return Judgement::Different(got, index);
     }
     if is_same(wanted, got) {
         return Judgement::Same;
     }
-    Judgement::Different(index)
+    Judgement::Different(got, index)
 }

@@ -6,7 +6,10 @@
 // they were made. It prints a line for each example, its name and `same`, or `DIFFERENT` with what was got, and
 // then how many there were. The answer is compared with its place and its velocity by bits, and scratch number
 // by number. A line that can't be read, and a file that can't be read whole, are said where they stand, so that
-// nothing is passed over in silence.
+// nothing is passed over in silence. The first write that fails ends the run. `--help` (`help.rt`) says all this on one
+// screen.
+//
+//     velocity_vectors [FILE ..]     each file in turn; `-` is standard input
 //
 // An example is a line `case NAME`, lines that change what stands before the first case, and the answer
 // that is wanted:
@@ -25,6 +28,7 @@ ghost use Rattle.velocity_vectors.specs.Cases.{Sized, Kept};
 
 mod answers;
 mod cases;
+mod help;
 mod judgements;
 mod keys;
 mod report;
@@ -36,19 +40,26 @@ use avoidance::ReadRequest;
 use avoidance::Request;
 use avoidance::velocity::velocity;
 use cases::Case;
+use console::Line;
+use console::arguments::ask_for_help;
+use console::inputs;
+use judgements::Judgement;
 use keys::Key;
 use lines::Fields;
 use report::Tally;
 use report::one_more;
-use report::say;
+
+// The most bytes of a file, which `report` says too. There is room for one more, to know a longer one by.
+const MOST_BYTES: usize = 65536;
 
 // What the lines so far have come to. A case starts from `standard`, which is what stood before the first
-// one, and is open until its answer.
+// one, and is open until its answer, which is said behind its name, in `line`.
 struct State {
     standard: Case,
     case: Case,
     started: bool,
     open: bool,
+    line: Line,
     malformed: bool,
     tally: Tally,
 }
@@ -67,17 +78,17 @@ fn call(numbers: &[f32], scratch: &mut [f32]) -> Answer
 }
 
 // Runs a case on the scratch that is lent to it.
-fn run_in(scratch: &mut [f32], case: Case, wanted: Answer) -> bool
+fn run_in(scratch: &mut [f32], case: Case, wanted: Answer) -> Judgement
     requires { ⌜ Sized case × (length (now scratch) ≤ 800) ⌝ }
 {
     let numbers = case.numbers;
     let length = case.length;
     scratch::fill_with(scratch, case.fill);
     let got = call(&numbers[0..length], scratch);
-    report::say_judgement(judgements::judge(case, wanted, got, scratch), got)
+    judgements::judge(case, wanted, got, scratch)
 }
 
-fn run(case: Case, wanted: Answer) -> bool
+fn run(case: Case, wanted: Answer) -> Judgement
     requires { ⌜ Sized case ⌝ }
 {
     let size = case.scratch;
@@ -86,15 +97,14 @@ fn run(case: Case, wanted: Answer) -> bool
     run_in(&mut space[0..size], case, wanted)
 }
 
-// A case with no answer is different.
+// Ends a case that has no answer.
 fn close(state: State) -> State
     requires { ⌜ Kept state ⌝ }
     ensures { λ r. ⌜ Kept r ⌝ }
 {
     let mut state = state;
     if state.open {
-        say(b"NO ANSWER\n");
-        let tally = report::counted(state.tally, false);
+        let tally = report::unanswered(state.tally, state.line);
         state.tally = tally;
         state.open = false;
     }
@@ -116,16 +126,23 @@ fn begun(state: State) -> State
     state
 }
 
-// `case NAME`: the name is said here, and the rest of its line with the answer.
+// `case NAME`: the name is kept for the line of its answer.
 fn start(name: &[u8], state: State) -> State
     requires { ⌜ Kept state ⌝ }
     ensures { λ r. ⌜ Kept r ⌝ }
 {
     let mut state = begun(close(state));
+    if !state.tally.goes_on {
+        return state;
+    }
     let standard = state.standard;
     state.case = standard;
     state.open = true;
-    report::say_name(name);
+    let named = report::with_name(Line::empty(), name);
+    let line = named.line.text(b": ");
+    state.line = line;
+    let tally = report::after(state.tally, named.goes_on);
+    state.tally = tally;
     state
 }
 
@@ -147,7 +164,7 @@ fn answer(wanted: Answer, state: State) -> State
         return malformed(state);
     }
     let named = answers::naming(wanted, state.case.unseen);
-    let tally = report::counted(state.tally, run(state.case, named));
+    let tally = report::judged(state.tally, state.line, run(state.case, named));
     state.tally = tally;
     state.open = false;
     state
@@ -203,9 +220,7 @@ fn said(name: &[u8], number: u64, state: State) -> State
     ensures { λ r. ⌜ Kept r ⌝ }
 {
     let mut state = state;
-    report::say_malformed(name, number);
-    let mut tally = state.tally;
-    tally.malformed = one_more(tally.malformed);
+    let tally = report::malformed(state.tally, name, number);
     state.tally = tally;
     state.malformed = false;
     state
@@ -235,6 +250,7 @@ fn unstarted(tally: Tally) -> State
         case: empty,
         started: false,
         open: false,
+        line: Line::empty(),
         malformed: false,
         tally,
     }
@@ -248,63 +264,66 @@ fn run_text(name: &[u8], text: &[u8], tally: Tally) -> Tally {
         let end = at + lines::length_until(&text[at..], b'\n');
         number = one_more(number);
         state = run_line(name, number, &text[at..end], state);
+        if !state.tally.goes_on {
+            return state.tally;
+        }
         at = end + 1;
     }
     let last = close(state);
     last.tally
 }
 
-// Whether a file was not read whole: one more read answers 0 only where it was, and fails where one before it did.
-fn has_more(file: i32) -> bool {
-    let mut next = [0u8; 1];
-    let more = libc::read(file, &mut next);
-    libc::close(file);
-    more != 0
-}
-
-fn run_opened(name: &[u8], file: i32, tally: Tally) -> Tally {
-    let mut text = io::large_buffer();
-    let n = io::read_full(file, &mut text);
-    if has_more(file) {
-        report::say_unread(name);
-        return tally;
+fn run_input(input: i32, name: &[u8], tally: Tally) -> Tally {
+    let mut space = [0u8; MOST_BYTES + 1];
+    let filled = inputs::fill(input, &mut space);
+    if filled.has_failed {
+        return report::after(tally, report::say_unreadable(name));
     }
-    run_text(name, &text[..n], tally)
+    let bytes = filled.bytes;
+    if MOST_BYTES < bytes {
+        return report::after(tally, report::say_too_long(name));
+    }
+    run_text(name, &space[..bytes], tally)
 }
 
 fn run_file(name: &[u8], tally: Tally) -> Tally {
-    let file = os::open_read(name);
-    if file < 0 {
-        os::fail(name);
-        report::say_unread(name);
-        return tally;
+    let input = inputs::open(name);
+    if input < 0 {
+        return report::after(tally, report::say_unreadable(name));
     }
-    run_opened(name, file, tally)
+    let after = run_input(input, name, tally);
+    inputs::close(input, name);
+    after
 }
 
 // An argument that is too long for a name is read as an empty one, which no file has.
 fn run_argument(index: usize, tally: Tally) -> Tally {
-    let mut name = [0u8; 64];
-    let n = os::arg(index, &mut name);
-    run_file(&name[..n], tally)
+    let mut space = io::buffer();
+    let length = os::arg(index, &mut space);
+    run_file(&space[..length], tally)
 }
 
-fn run_arguments(tally: Tally) -> Tally {
-    let mut tally = tally;
-    let count = os::arg_count();
+fn run_arguments(count: usize) -> Tally {
+    let mut tally = report::none();
     let mut index = 1;
     while index < count {
         tally = run_argument(index, tally);
+        if !tally.goes_on {
+            return tally;
+        }
         index += 1;
     }
     tally
 }
 
 fn main() {
-    let none = Tally {
-        cases: 0,
-        different: 0,
-        malformed: 0,
-    };
-    report::say_tally(run_arguments(none));
+    let count = os::arg_count();
+    if ask_for_help(count) {
+        help::say_help();
+        return;
+    }
+    let tally = run_arguments(count);
+    if tally.goes_on {
+        report::say_tally(tally);
+    }
 }

@@ -49,17 +49,20 @@ part-run-line-end c = end-within (c .before)
 run-line-requires : tie.Need-run-line-requires Inv-loop μ-loop
 run-line-requires c κs = search needs
 
-add-at : tie.Need-add-at Inv-loop μ-loop
-add-at c = omega (arith, end-within (c .before .before .before))
-
-loop-less : tie.Need-loop-less Inv-loop μ-loop
-loop-less c = omega (arith, end-within (c .before .before .before))
-
-loop-again : tie.Need-loop-again Inv-loop μ-loop
-loop-again c = omega (arith, end-within (c .before .before .before))
-
 returns : tie.Need-returns Inv-loop μ-loop
 returns c = search needs
+
+add-at : tie.Need-add-at Inv-loop μ-loop
+add-at c = omega (arith, end-within (c .before .before .before .before .before))
+
+loop-less : tie.Need-loop-less Inv-loop μ-loop
+loop-less c = omega (arith, end-within (c .before .before .before .before .before))
+
+loop-again : tie.Need-loop-again Inv-loop μ-loop
+loop-again c = omega (arith, end-within (c .before .before .before .before .before))
+
+returns-2 : tie.Need-returns-2 Inv-loop μ-loop
+returns-2 c = search needs
 
 pub run-text-spec : {M : Type 1} → statement M
 run-text-spec =
@@ -78,7 +81,8 @@ run-text-spec =
     part-run-line-start
     part-run-line-end
     run-line-requires
+    returns
     add-at
     loop-less
     loop-again
-    returns)
+    returns-2)

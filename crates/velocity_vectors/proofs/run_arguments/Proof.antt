@@ -6,19 +6,22 @@ use Rattle.velocity_vectors.proofs.run_arguments.Statement.{statement}
 use Rattle.velocity_vectors.proofs.run_arguments.Tie as tie
 
 abbrev Inv-loop : tie.InvT-loop
-Inv-loop tally₀ count index₀ tally index = 1 ≤ index
+Inv-loop count tally₀ index₀ tally index = 1 ≤ index
 
 abbrev μ-loop : tie.MeasureT-loop
-μ-loop tally₀ count index₀ tally index = count - index
+μ-loop count tally₀ index₀ tally index = count - index
 
-arg-count-requires : tie.Need-arg-count-requires Inv-loop μ-loop
-arg-count-requires c κs = search needs
+none-requires : tie.Need-none-requires Inv-loop μ-loop
+none-requires c κs = search needs
 
 loop-holds : tie.Need-loop-holds Inv-loop μ-loop
 loop-holds c = search needs
 
 run-argument-requires : tie.Need-run-argument-requires Inv-loop μ-loop
 run-argument-requires c κs = search needs
+
+returns : tie.Need-returns Inv-loop μ-loop
+returns c = search needs
 
 add-index : tie.Need-add-index Inv-loop μ-loop
 add-index c = search needs
@@ -29,8 +32,8 @@ loop-less c = search needs
 loop-again : tie.Need-loop-again Inv-loop μ-loop
 loop-again c = search needs
 
-returns : tie.Need-returns Inv-loop μ-loop
-returns c = search needs
+returns-2 : tie.Need-returns-2 Inv-loop μ-loop
+returns-2 c = search needs
 
 pub run-arguments-spec : {M : Type 1} → statement M
 run-arguments-spec =
@@ -38,10 +41,11 @@ run-arguments-spec =
     (tie.spec
     Inv-loop
     μ-loop
-    arg-count-requires
+    none-requires
     loop-holds
     run-argument-requires
+    returns
     add-index
     loop-less
     loop-again
-    returns)
+    returns-2)

@@ -53,22 +53,25 @@ part-run-line-end c = end-within (c .before)
 run-line-requires : tie.Need-run-line-requires Inv-loop μ-loop
 run-line-requires c κs = search needs
 
+returns : tie.Need-returns Inv-loop μ-loop
+returns c = search needs
+
 add-at : tie.Need-add-at Inv-loop μ-loop
 add-at c =
-    let at-line = c .before .before .before in
+    let at-line = c .before .before .before .before .before in
     omega (arith, end-within at-line, at-line .before .before .before .before .before .before .before .good .1 .0)
 
 loop-less : tie.Need-loop-less Inv-loop μ-loop
-loop-less c = omega (arith, end-within (c .before .before .before))
+loop-less c = omega (arith, end-within (c .before .before .before .before .before))
 
 loop-again : tie.Need-loop-again Inv-loop μ-loop
-loop-again c = (omega (arith, end-within (c .before .before .before)), c .run-line .ensures)
+loop-again c = (omega (arith, end-within (c .before .before .before .before .before)), c .before .before .run-line .ensures)
 
 close-requires : tie.Need-close-requires Inv-loop μ-loop
 close-requires c κs = search needs
 
-returns : tie.Need-returns Inv-loop μ-loop
-returns c = search needs
+returns-2 : tie.Need-returns-2 Inv-loop μ-loop
+returns-2 c = search needs
 
 pub run-text-spec : {M : Type 1} → statement M
 run-text-spec =
@@ -88,8 +91,9 @@ run-text-spec =
     part-run-line-start
     part-run-line-end
     run-line-requires
+    returns
     add-at
     loop-less
     loop-again
     close-requires
-    returns)
+    returns-2)

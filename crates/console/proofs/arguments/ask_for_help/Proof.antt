@@ -1,9 +1,8 @@
--- `spacing_report::arguments::ask_for_help` is safe and ends. The measure is the arguments that are left.
--- Assumes nothing.
+-- `console::arguments::ask_for_help` is safe and ends. The measure is the arguments that are left.
 use Prim.Native.Nat.{_-_, _≤_}
 use borrow.Author.Needs.{needs}
-use Rattle.spacing_report.proofs.arguments.ask_for_help.Statement.{statement}
-use Rattle.spacing_report.proofs.arguments.ask_for_help.Tie as tie
+use Rattle.console.proofs.arguments.ask_for_help.Statement.{statement}
+use Rattle.console.proofs.arguments.ask_for_help.Tie as tie
 
 abbrev Inv-loop : tie.InvT-loop
 Inv-loop count index₀ index = 1 ≤ index

@@ -1,11 +1,12 @@
--- `spacing_report::frames::fill` is safe, ends and stays within the space. The measure is the space that is left.
--- Assumes nothing.
+-- `console::inputs::fill` stays within the space. The measure is the space that is left.
 use mathlib.Core.Path.{_≡_}
-use Prim.Native.Nat.{_≤_, _-_}
+use Prim.Native.Nat.{_-_, _≤_}
+use native.Mathlib.Omega.{arith}
 use lib.ListN.{length}
+use Rattle.io.proofs.Counting.{counts}
 use borrow.Author.Needs.{needs}
-use Rattle.spacing_report.proofs.frames.fill.Statement.{statement}
-use Rattle.spacing_report.proofs.frames.fill.Tie as tie
+use Rattle.console.proofs.inputs.fill.Statement.{statement}
+use Rattle.console.proofs.inputs.fill.Tie as tie
 
 abbrev Inv-loop : tie.InvT-loop
 Inv-loop input space₀ size bytes₀ space bytes = (length space ≡ length space₀) × (bytes ≤ size)
@@ -32,7 +33,7 @@ same-length : tie.Need-same-length Inv-loop μ-loop
 same-length c = search needs
 
 returns : tie.Need-returns Inv-loop μ-loop
-returns c = search needs
+returns c = counts _ _ (omega arith)
 
 sub-count : tie.Need-sub-count Inv-loop μ-loop
 sub-count c = search needs
@@ -59,13 +60,13 @@ same-length-2 : tie.Need-same-length-2 Inv-loop μ-loop
 same-length-2 c = search needs
 
 returns-2 : tie.Need-returns-2 Inv-loop μ-loop
-returns-2 c = search needs
+returns-2 c = counts _ _ (omega arith)
 
 same-length-3 : tie.Need-same-length-3 Inv-loop μ-loop
 same-length-3 c = search needs
 
 returns-3 : tie.Need-returns-3 Inv-loop μ-loop
-returns-3 c = search needs
+returns-3 c = counts _ _ (omega arith)
 
 pub fill-spec : {M : Type 1} → statement M
 fill-spec =
