@@ -1,17 +1,21 @@
 -- Save writes the standing records as a fleet file: load and a reader take them back as they were, and a file that is loaded is saved as it was.
 --     only-16: a save whose buffer is long enough is answered, whatever the fleet
 --     refused-untouched, saved-there, untouched-past: a buffer too short stays as it is; else it starts with the bytes saved, and past them it is as it was
+--     saved-within: no more bytes are written than the buffer has
 --     saved-loads: load accepts the bytes saved of a sound fleet, and its agents are then the same records, in order
 --     loaded-saves: a file that load accepts, saved at once, is the same bytes
 --     saved-standing: in an open tick the bytes are those of the records at its opening
 --     reader-saved: a reader over the bytes saved hands out the standing records
-use mathlib.Core.Path.{_≡_, sym, ap, _∙_, subst}
+use mathlib.Core.Path.{_≡_, refl, sym, ap, _∙_, subst}
 use mathlib.Core.Bool.{Bool, true, false, cond}
 use mathlib.Core.List.{List, _++_}
-use Prim.Native.Nat.{ℕ, _<_}
+use Prim.Native.Nat.{ℕ, _≤_, _<_}
+use native.Mathlib.Omega.{arith}
+use lib.Dec.{ltb}
 use lib.ListN.{length, getD, take, drop}
 use lib.Seq.{take-at, drop-at}
 use lib.Ieee.{Float}
+use borrow.Author.Tests.{ltb-false}
 use Rattle.refusals.specs.declared.Refusal.the-variants.{ShortBuffer}
 use Rattle.refusals.specs.declared.Verdict.the-variants.{Passed}
 use Rattle.refusals.specs.Verdict.{_⊳_, refusedIf}
@@ -48,6 +52,15 @@ only-16 fleet buffer room = ap (λ (short : Bool). answerTo (refusedIf short (Sh
 pub refused-untouched : (fleet : Fleet) (buffer : List ℕ) → shortBuffer fleet (length buffer) ≡ true → bufferAfter fleet buffer ≡ buffer
 unfolding bufferAfter
 refused-untouched fleet buffer short = ap (λ (b : Bool). cond b buffer (savedBytes fleet ++ drop (neededBytes fleet) buffer)) short
+
+-- no more bytes are written than the buffer has
+pub saved-within : (fleet : Fleet) (bufferLength : ℕ) → saveCall fleet bufferLength .bytes ≤ bufferLength
+unfolding saveCall shortBuffer
+saved-within fleet bufferLength = go (ltb bufferLength (neededBytes fleet)) refl
+  where
+    go : (b : Bool) → ltb bufferLength (neededBytes fleet) ≡ b → cond b 0 (neededBytes fleet) ≤ bufferLength
+    go true short = omega arith
+    go false room = ltb-false _ _ room
 
 saved-length : (fleet : Fleet) → WholeRecords fleet → length (savedBytes fleet) ≡ neededBytes fleet
 unfolding savedBytes neededBytes

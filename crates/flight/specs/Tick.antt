@@ -1,6 +1,7 @@
--- A tick in one piece: open, plan every agent by rising index, close.
+-- A tick in one piece: open, plan every agent by rising index, close; ticks one after another; and those of a file's fleet.
 use Prim.Native.Nat.{ℕ, zero, suc}
 use mathlib.Core.Bool.{Bool, not, cond}
+use mathlib.Core.List.{List, []}
 use lib.Dec.{eqb}
 use lib.ListN.{length}
 use lib.Ieee.{Float}
@@ -8,8 +9,10 @@ use Rattle.avoidance.specs.Checks.{fullScratch}
 use Rattle.fleet.specs.declared.Rule.{Rule}
 use Rattle.fleet.specs.declared.Fleet.{Fleet}
 use Rattle.fleet.specs.declared.Called.{Called}
+use Rattle.fleet.specs.declared.Answer.the-variants.{Done}
 use Rattle.fleet.specs.Answer.{number}
-use Rattle.fleet.specs.Table.{agents}
+use Rattle.fleet.specs.Table.{agents, fleetOf}
+use Rattle.fleet.specs.Load.{loadCall}
 use Rattle.fleet.specs.Tick.{openCall, closeCall, dropCall}
 use Rattle.fleet.specs.Plan.{planCall}
 
@@ -39,3 +42,12 @@ unfoldable pub oneTick : Float → Rule → Fleet → Called
 oneTick timeStep rule fleet =
     let opened = openCall fleet timeStep rule in
     cond (isRefused opened) opened (flown opened)
+
+-- so many ticks one after another, up to the first that is refused, whose answer it is
+unfoldable pub ticksInTurn : ℕ → Float → Rule → Fleet → Called
+ticksInTurn zero timeStep rule fleet = record { answer = Done; fleet = fleet }
+ticksInTurn (suc n) timeStep rule fleet = unlessRefused (oneTick timeStep rule fleet) (ticksInTurn n timeStep rule)
+
+-- a fleet file loaded onto an empty table, and so many ticks of its fleet: a load that is refused is handed back
+unfoldable pub fileFlown : List ℕ → ℕ → Float → Rule → Called
+fileFlown file n timeStep rule = unlessRefused (loadCall (fleetOf []) file) (ticksInTurn n timeStep rule)

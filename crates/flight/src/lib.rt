@@ -1,12 +1,14 @@
 // A tick in one piece: open, plan every agent by rising index, close. Its answer is the first refused call's, and a
-// tick that it opened is dropped where a call in it is refused. The definitions are in `specs/Tick.antt`.
+// tick that it opened is dropped where a call in it is refused. And ticks one after another. The definitions are in
+// `specs/Tick.antt`.
 ghost use mathlib.Core.Path.{_≡_};
 ghost use lib.ListN.{length};
 ghost use Rattle.fleet.specs.Tick.{closeCall};
 ghost use Rattle.fleet.specs.Table.{agents};
 ghost use Rattle.fleet.specs.Plan.{planCall};
-ghost use Rattle.flight.specs.Tick.{isRefused, unlessRefused, firstPlanned, orDropped, flown, oneTick};
+ghost use Rattle.flight.specs.Tick.{isRefused, unlessRefused, firstPlanned, orDropped, flown, oneTick, ticksInTurn, fileFlown};
 use avoidance::FULL_SCRATCH;
+use fleet::Answer;
 use fleet::Called;
 use fleet::Fleet;
 use fleet::Rule;
@@ -86,4 +88,37 @@ pub fn one_tick(fleet: Fleet, time_step: f32, rule: Rule) -> Called
         return opened;
     }
     flown(opened)
+}
+
+// So many ticks one after another. The first that is refused ends them: its answer is handed back, and the fleet after
+// the ticks before it.
+pub fn ticks_in_turn(fleet: Fleet, count: usize, time_step: f32, rule: Rule) -> Called
+    ensures { λ r. ⌜ r ≡ ticksInTurn count «time_step» rule fleet ⌝ }
+{
+    let mut fleet = fleet;
+    let mut left = count;
+    while 0 < left {
+        let last = one_tick(fleet, time_step, rule);
+        if is_refused(last) {
+            return last;
+        }
+        fleet = last.fleet;
+        left -= 1;
+    }
+    Called {
+        answer: Answer::Done,
+        fleet,
+    }
+}
+
+// So many ticks of the fleet of a lent file. A load that is refused is handed back.
+pub fn file_flown(file: &[u8], ticks: usize, time_step: f32, rule: Rule) -> Called
+    ensures { λ r. ⌜ r ≡ fileFlown (now (file .entry)) ticks «time_step» rule ⌝ }
+{
+    let loaded = Fleet::empty().load(file);
+    if is_refused(loaded) {
+        return loaded;
+    }
+    let fleet = loaded.fleet;
+    ticks_in_turn(fleet, ticks, time_step, rule)
 }

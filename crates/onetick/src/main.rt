@@ -4,230 +4,109 @@
 //
 //     onetick [FILE ..]     standard input, or each file in turn; `-` is standard input
 //
-// The line `file NAME` stands before what comes of a file that is named. A file that can't be read is said on
-// standard error, and the next one goes on.
-use avoidance::FULL_SCRATCH;
-use fleet::Answer;
-use fleet::Called;
+// The line `file NAME` stands before what comes of a file that is named. For one that can't be read the line is
+// `unreadable`, with the reason on standard error, and the next one goes on. The first write that fails ends the run.
+mod help;
+
+use console::Line;
+use console::arguments;
+use console::inputs;
+use console::output;
 use fleet::Fleet;
 use fleet::Rule;
+use flight::file_flown;
 use libc::STDIN_FILENO;
-use libc::STDOUT_FILENO;
 use refusals::Refusal;
 
-// What one more read of an input finds.
-enum More {
-    Bytes(usize),
-    End,
-    Failed,
-}
+// The words of a record that are printed: its position and its velocity.
+const SHOWN_WORDS: usize = 6;
 
-// How many bytes an input had in all.
-enum Length {
-    Whole(usize),
-    Failed,
-}
+// Each `say` and each `run` answers whether to go on: always, but after a write that failed, which `output` has said.
 
-fn say(text: &[u8]) {
-    io::write_all(STDOUT_FILENO, text);
-}
-
-fn say_number(number: usize) {
-    io::print_decimal(STDOUT_FILENO, number as u64);
-}
-
-fn say_refused(answer: Answer) {
-    say(b"refused ");
-    io::print_decimal(STDOUT_FILENO, answer.number() as u64);
-    say(b" ");
-    say_number(answer.place());
-    say(b"\n");
-}
-
-fn say_agent(fleet: Fleet, index: usize) {
-    say_number(index);
+fn say_agent(fleet: Fleet, index: usize) -> bool {
     let read = fleet.read(index);
     let words = read.words;
+    let mut line = Line::empty().decimal(index as u64);
     let mut place = 0;
-    while place < 6 {
-        say(b" ");
-        io::print_hex(STDOUT_FILENO, words[place] as u64, 8);
+    while place < SHOWN_WORDS {
+        line = line.text(b" ").word(words[place]);
         place += 1;
     }
-    say(b"\n");
+    line.text(b"\n").say()
 }
 
-fn say_fleet(fleet: Fleet) {
+fn say_fleet(fleet: Fleet) -> bool {
     let count = fleet.agent_count();
     let mut index = 0;
     while index < count {
-        say_agent(fleet, index);
+        if !say_agent(fleet, index) {
+            return false;
+        }
         index += 1;
     }
+    true
 }
 
-fn is_refused(last: Called) -> bool {
-    let answer = last.answer;
-    answer.number() != 0
-}
-
-// A refused call is handed on by each of the calls that would follow it.
-fn opened(last: Called) -> Called {
-    if is_refused(last) {
-        return last;
-    }
-    let fleet = last.fleet;
-    fleet.open(0.5, Rule::Near)
-}
-
-fn planned(last: Called, index: usize, scratch: &mut [f32]) -> Called {
-    if is_refused(last) {
-        return last;
-    }
-    let fleet = last.fleet;
-    fleet.plan(index, scratch)
-}
-
-fn all_planned(opened: Called) -> Called {
-    let mut scratch = [0.0f32; FULL_SCRATCH];
-    let fleet = opened.fleet;
-    let count = fleet.agent_count();
-    let mut last = opened;
-    let mut index = 0;
-    while index < count {
-        last = planned(last, index, &mut scratch);
-        index += 1;
-    }
-    last
-}
-
-fn closed(last: Called) -> Called {
-    if is_refused(last) {
-        return last;
-    }
-    let fleet = last.fleet;
-    fleet.close()
-}
-
-// What the first refused call hands back, or the last one.
-fn one_tick(file: &[u8]) -> Called {
-    closed(all_planned(opened(Fleet::empty().load(file))))
-}
-
-fn run(file: &[u8]) {
-    let last = one_tick(file);
-    let answer = last.answer;
-    let fleet = last.fleet;
-    if is_refused(last) {
-        say_refused(answer);
+fn run(file: &[u8]) -> bool {
+    let flown = file_flown(file, 1, 0.5, Rule::Near);
+    let answer = flown.answer;
+    let fleet = flown.fleet;
+    if answer.number() == 0 {
+        say_fleet(fleet)
     } else {
-        say_fleet(fleet);
+        output::say_refused(answer.number(), answer.place())
     }
 }
 
-fn read_more(input: i32) -> More {
-    let mut buffer = io::large_buffer();
-    let got = libc::read(input, &mut buffer);
-    if got < 0 {
-        return More::Failed;
+// A file that has no room in the space has more than 64 records: it is refused for its length alone.
+fn run_input(input: i32, name: &[u8]) -> bool {
+    let mut space = io::large_buffer();
+    let whole = inputs::read_whole(input, &mut space);
+    if whole.has_failed {
+        return output::say_unreadable(name);
     }
-    if got == 0 {
-        return More::End;
+    let bytes = whole.bytes;
+    if bytes < whole.length {
+        let refusal = Refusal::BadFile {
+            bytes: whole.length,
+        };
+        return output::say_refused(refusal.number(), refusal.place());
     }
-    More::Bytes(io::count(got, &buffer))
-}
-
-// A length that is full stays so.
-fn sum(length: usize, more: usize) -> usize {
-    if more <= usize::MAX - length {
-        length + more
-    } else {
-        usize::MAX
-    }
-}
-
-// The length of an input, of which `first` bytes are read. A proved loop has to end, and nothing says that a file
-// does: it counts its turns down, from a number that no run uses up.
-fn whole_length(input: i32, first: usize) -> Length {
-    let mut length = first;
-    let mut turns = u64::MAX;
-    while 0 < turns {
-        match read_more(input) {
-            More::Bytes(more) => {
-                length = sum(length, more);
-            }
-            More::End => {
-                return Length::Whole(length);
-            }
-            More::Failed => {
-                return Length::Failed;
-            }
-        }
-        turns -= 1;
-    }
-    Length::Whole(length)
-}
-
-// Runs what an input has; the name is for an error alone.
-fn run_input(input: i32, name: &[u8]) {
-    // More than 64 records: what is longer is refused for its length alone.
-    let mut file = io::large_buffer();
-    let first = io::read_full(input, &mut file);
-    match whole_length(input, first) {
-        Length::Failed => {
-            os::fail(name);
-        }
-        Length::Whole(length) => {
-            if first < length {
-                say_refused(Answer::Refused(Refusal::BadFile { bytes: length }));
-            } else {
-                run(&file[..first]);
-            }
-        }
-    }
-}
-
-fn run_file(name: &[u8]) {
-    let input = os::open_read(name);
-    if input < 0 {
-        os::fail(name);
-        return;
-    }
-    run_input(input, name);
-    libc::close(input);
-}
-
-fn is_standard_input(name: &[u8]) -> bool {
-    if name.len() == 1 {
-        name[0] == b'-'
-    } else {
-        false
-    }
+    run(&space[..bytes])
 }
 
 // An argument that is too long for a name is read as an empty one, which no file has.
-fn run_argument(index: usize) {
+fn run_argument(index: usize) -> bool {
     let mut space = io::buffer();
     let length = os::arg(index, &mut space);
     let name = &space[..length];
-    say(b"file ");
-    say(name);
-    say(b"\n");
-    if is_standard_input(name) {
-        run_input(STDIN_FILENO, name);
-    } else {
-        run_file(name);
+    if !output::say_name(name) {
+        return false;
     }
+    let input = inputs::open(name);
+    if input < 0 {
+        return output::say_unreadable(name);
+    }
+    let goes_on = run_input(input, name);
+    inputs::close(input, name);
+    goes_on
 }
 
 fn main() {
     let count = os::arg_count();
+    if arguments::ask_for_help(count) {
+        help::say_help();
+        return;
+    }
     if count < 2 {
         run_input(STDIN_FILENO, b"standard input");
+        return;
     }
     let mut index = 1;
     while index < count {
-        run_argument(index);
+        if !run_argument(index) {
+            return;
+        }
         index += 1;
     }
 }

@@ -1,10 +1,5 @@
 // A call: its kind, and what it takes of its 22 words. Words that a kind does not take are not looked at, but for
 // the length of scratch, which is held to its limit in every call.
-ghost use Prim.Native.Nat.{_≤_};
-use super::report;
-use fleet::Answer;
-use fleet::Called;
-use fleet::Fleet;
 use fleet::Rule;
 use records::RECORD_WORDS;
 use vectors::Vec3;
@@ -24,27 +19,50 @@ const ARGUMENTS: usize = 3;
 
 const RULE_WORD: usize = 4;
 
-// No call may lend more scratch.
-const MOST_SCRATCH: usize = 1024;
+// No call may lend more scratch, in numbers.
+pub(crate) const MOST_SCRATCH: usize = 1024;
 
-// In the order of their numbers, from 1 on.
-pub enum Call {
-    // the words
+// Nor a longer buffer, in bytes.
+pub(crate) const MOST_BUFFER: usize = 8192;
+
+// The calls that hand a new fleet back and say their answer alone, each with its kind and what it takes.
+pub enum Change {
+    // 1: the arguments, a record's words
     Add,
-    // the index, the words
+    // 2: the index; the same
     Put,
-    // the index
+    // 3: the index
     Remove,
-    // the index
-    Read,
-    // the index; three numbers
+    // 5: the index; three arguments, a goal's numbers
     Goal,
-    // the time step; 0 for the source rule, 1 for the near rule
+    // 6: the first argument, the time step; the second, 0 for the source rule and 1 for the near rule
     Open(Rule),
-    // the index, the length of scratch
+    // 7: the index, the length of scratch
     Plan,
+    // 8
     Close,
+    // 9
     Drop,
+    // 10: the first argument, the length in bytes of a fleet file; the file, which follows the call
+    Load,
+}
+
+// Those that leave the fleet as it is.
+pub enum Look {
+    // 4: the index
+    Read,
+    // 11: the first argument, the length in bytes of the buffer lent
+    Save,
+    // 12, a read by the reader: the index; the length of a fleet file and the file, as for a load
+    Record,
+}
+
+pub enum Call {
+    Change(Change),
+    Look(Look),
+    // 13, a plan that shows its scratch: the index, the length of scratch; the first argument, the word of the first
+    // number that stands there before the plan, with the next word for each number after it
+    PlanShown,
 }
 
 // What 22 words are read as.
@@ -53,25 +71,44 @@ pub enum Form {
     Unknown,
 }
 
+fn changing(change: Change) -> Form {
+    Form::Call(Call::Change(change))
+}
+
+fn looking(look: Look) -> Form {
+    Form::Call(Call::Look(look))
+}
+
 fn opening(rule: u32) -> Form {
     match rule {
-        0 => Form::Call(Call::Open(Rule::Source)),
-        1 => Form::Call(Call::Open(Rule::Near)),
+        0 => changing(Change::Open(Rule::Source)),
+        1 => changing(Change::Open(Rule::Near)),
         _ => Form::Unknown,
     }
 }
 
-fn of_kind(kind: u32, rule: u32) -> Form {
+fn saving(length: u32) -> Form {
+    if MOST_BUFFER < length as usize {
+        return Form::Unknown;
+    }
+    looking(Look::Save)
+}
+
+fn of_kind(kind: u32, words: [u32; CALL_WORDS]) -> Form {
     match kind {
-        1 => Form::Call(Call::Add),
-        2 => Form::Call(Call::Put),
-        3 => Form::Call(Call::Remove),
-        4 => Form::Call(Call::Read),
-        5 => Form::Call(Call::Goal),
-        6 => opening(rule),
-        7 => Form::Call(Call::Plan),
-        8 => Form::Call(Call::Close),
-        9 => Form::Call(Call::Drop),
+        1 => changing(Change::Add),
+        2 => changing(Change::Put),
+        3 => changing(Change::Remove),
+        4 => looking(Look::Read),
+        5 => changing(Change::Goal),
+        6 => opening(words[RULE_WORD]),
+        7 => changing(Change::Plan),
+        8 => changing(Change::Close),
+        9 => changing(Change::Drop),
+        10 => changing(Change::Load),
+        11 => saving(words[ARGUMENTS]),
+        12 => looking(Look::Record),
+        13 => Form::Call(Call::PlanShown),
         _ => Form::Unknown,
     }
 }
@@ -80,11 +117,38 @@ pub(crate) fn form_of(words: [u32; CALL_WORDS]) -> Form {
     if MOST_SCRATCH < words[SCRATCH_WORD] as usize {
         return Form::Unknown;
     }
-    of_kind(words[KIND_WORD], words[RULE_WORD])
+    of_kind(words[KIND_WORD], words)
+}
+
+pub(crate) fn index(words: [u32; CALL_WORDS]) -> usize {
+    words[INDEX_WORD] as usize
+}
+
+pub(crate) fn scratch_length(words: [u32; CALL_WORDS]) -> usize {
+    words[SCRATCH_WORD] as usize
+}
+
+pub(crate) fn first_argument(words: [u32; CALL_WORDS]) -> u32 {
+    words[ARGUMENTS]
+}
+
+// The length of the file that follows the call; of none, where no file does.
+pub(crate) fn file_length(call: Call, words: [u32; CALL_WORDS]) -> u32 {
+    match call {
+        Call::Change(change) => match change {
+            Change::Load => words[ARGUMENTS],
+            _ => 0,
+        },
+        Call::Look(look) => match look {
+            Look::Record => words[ARGUMENTS],
+            _ => 0,
+        },
+        Call::PlanShown => 0,
+    }
 }
 
 // The arguments, as many as a record has words.
-fn arguments(words: [u32; CALL_WORDS]) -> [u32; RECORD_WORDS] {
+pub(crate) fn arguments(words: [u32; CALL_WORDS]) -> [u32; RECORD_WORDS] {
     let mut out = [0; RECORD_WORDS];
     let mut place = 0;
     while place < RECORD_WORDS {
@@ -94,62 +158,10 @@ fn arguments(words: [u32; CALL_WORDS]) -> [u32; RECORD_WORDS] {
     out
 }
 
-fn goal(words: [u32; CALL_WORDS]) -> Vec3 {
+pub(crate) fn goal(words: [u32; CALL_WORDS]) -> Vec3 {
     Vec3 {
         x: from_word(words[ARGUMENTS]),
         y: from_word(words[ARGUMENTS + 1]),
         z: from_word(words[ARGUMENTS + 2]),
     }
-}
-
-fn at_most(most: usize, length: usize) -> usize
-    ensures { λ r. ⌜ r ≤ most ⌝ }
-{
-    if length <= most { length } else { most }
-}
-
-// A plan on a scratch of that length; `form_of` lets none pass that is over that.
-fn plan(fleet: Fleet, index: usize, length: usize) -> Called {
-    let mut scratch = [0.0f32; MOST_SCRATCH];
-    let lent = at_most(MOST_SCRATCH, length);
-    fleet.plan(index, &mut scratch[0..lent])
-}
-
-// Any call but read, which hands back words and no new fleet.
-fn called(fleet: Fleet, call: Call, words: [u32; CALL_WORDS]) -> Called {
-    let index = words[INDEX_WORD] as usize;
-    match call {
-        Call::Add => fleet.add(arguments(words)),
-        Call::Put => fleet.put(index, arguments(words)),
-        Call::Remove => fleet.remove(index),
-        Call::Goal => fleet.goal(index, goal(words)),
-        Call::Open(rule) => fleet.open(from_word(words[ARGUMENTS]), rule),
-        Call::Plan => plan(fleet, index, words[SCRATCH_WORD] as usize),
-        Call::Close => fleet.close(),
-        Call::Drop => fleet.drop(),
-        Call::Read => Called {
-            answer: Answer::Done,
-            fleet,
-        },
-    }
-}
-
-// Says what a call answered, and hands the fleet after it back.
-pub(crate) fn said(called: Called) -> Fleet {
-    let answer = called.answer;
-    report::say_answer(answer);
-    called.fleet
-}
-
-fn say_standing(fleet: Fleet, index: usize) {
-    report::say_read(fleet.read(index));
-}
-
-// Makes the call and says what it answers. The fleet after it.
-pub(crate) fn make(fleet: Fleet, call: Call, words: [u32; CALL_WORDS]) -> Fleet {
-    if let Call::Read = call {
-        say_standing(fleet, words[INDEX_WORD] as usize);
-        return fleet;
-    }
-    said(called(fleet, call, words))
 }

@@ -1,5 +1,4 @@
 -- `onetick::main` is safe and ends. The measure is the arguments that are left.
--- Assumes nothing.
 use Prim.Native.Nat.{_-_, _≤_}
 use borrow.Author.Needs.{needs}
 use Rattle.onetick.proofs.main.Statement.{statement}
@@ -14,17 +13,32 @@ abbrev μ-loop : tie.MeasureT-loop
 arg-count-requires : tie.Need-arg-count-requires Inv-loop μ-loop
 arg-count-requires c κs = search needs
 
+ask-for-help-requires : tie.Need-ask-for-help-requires Inv-loop μ-loop
+ask-for-help-requires c κs = search needs
+
+say-help-requires : tie.Need-say-help-requires Inv-loop μ-loop
+say-help-requires c κs = search needs
+
+returns : tie.Need-returns Inv-loop μ-loop
+returns c = search needs
+
 slice-aggregate-run-input : tie.Need-slice-aggregate-run-input Inv-loop μ-loop
 slice-aggregate-run-input c = search needs
 
 run-input-requires : tie.Need-run-input-requires Inv-loop μ-loop
 run-input-requires c κs = search needs
 
+returns-2 : tie.Need-returns-2 Inv-loop μ-loop
+returns-2 c = search needs
+
 loop-holds : tie.Need-loop-holds Inv-loop μ-loop
 loop-holds c = search needs
 
 run-argument-requires : tie.Need-run-argument-requires Inv-loop μ-loop
 run-argument-requires c κs = search needs
+
+returns-3 : tie.Need-returns-3 Inv-loop μ-loop
+returns-3 c = search needs
 
 add-index : tie.Need-add-index Inv-loop μ-loop
 add-index c = search needs
@@ -35,8 +49,8 @@ loop-less c = search needs
 loop-again : tie.Need-loop-again Inv-loop μ-loop
 loop-again c = search needs
 
-returns : tie.Need-returns Inv-loop μ-loop
-returns c = search needs
+returns-4 : tie.Need-returns-4 Inv-loop μ-loop
+returns-4 c = search needs
 
 pub main-spec : {M : Type 1} → statement M
 main-spec =
@@ -45,11 +59,16 @@ main-spec =
     Inv-loop
     μ-loop
     arg-count-requires
+    ask-for-help-requires
+    say-help-requires
+    returns
     slice-aggregate-run-input
     run-input-requires
+    returns-2
     loop-holds
     run-argument-requires
+    returns-3
     add-index
     loop-less
     loop-again
-    returns)
+    returns-4)

@@ -7,37 +7,37 @@ use Rattle.onetick.proofs.say_agent.Statement.{statement}
 use Rattle.onetick.proofs.say_agent.Tie as tie
 
 abbrev Inv-loop : tie.InvT-loop
-Inv-loop index words place₀ t6 t7 place = length words ≡ 19
+Inv-loop index words line₀ place₀ t7 t8 line place = length words ≡ 19
 
 abbrev μ-loop : tie.MeasureT-loop
-μ-loop index words place₀ t6 t7 place = 6 - place
-
-say-number-requires : tie.Need-say-number-requires Inv-loop μ-loop
-say-number-requires c κs = search needs
+μ-loop index words line₀ place₀ t7 t8 line place = 6 - place
 
 read-requires : tie.Need-read-requires Inv-loop μ-loop
 read-requires c κs = search needs
 
+empty-requires : tie.Need-empty-requires Inv-loop μ-loop
+empty-requires c κs = search needs
+
+decimal-requires : tie.Need-decimal-requires Inv-loop μ-loop
+decimal-requires c κs = search needs
+
 loop-holds : tie.Need-loop-holds Inv-loop μ-loop
 loop-holds c = search needs
 
-slice-aggregate-say : tie.Need-slice-aggregate-say Inv-loop μ-loop
-slice-aggregate-say c = search needs
+slice-aggregate-text : tie.Need-slice-aggregate-text Inv-loop μ-loop
+slice-aggregate-text c = search needs
 
-say-requires : tie.Need-say-requires Inv-loop μ-loop
-say-requires c κs = search needs
+text-requires : tie.Need-text-requires Inv-loop μ-loop
+text-requires c κs = search needs
 
-mul-print-hex : tie.Need-mul-print-hex Inv-loop μ-loop
-mul-print-hex c = search needs
+mul-word : tie.Need-mul-word Inv-loop μ-loop
+mul-word c = search needs
 
-array-read-print-hex : tie.Need-array-read-print-hex Inv-loop μ-loop
-array-read-print-hex c = search needs
+array-read-word : tie.Need-array-read-word Inv-loop μ-loop
+array-read-word c = search needs
 
-cast-print-hex : tie.Need-cast-print-hex Inv-loop μ-loop
-cast-print-hex c = search needs
-
-print-hex-requires : tie.Need-print-hex-requires Inv-loop μ-loop
-print-hex-requires c κs = search needs
+word-requires : tie.Need-word-requires Inv-loop μ-loop
+word-requires c κs = search needs
 
 add-place : tie.Need-add-place Inv-loop μ-loop
 add-place c = search needs
@@ -48,11 +48,14 @@ loop-less c = search needs
 loop-again : tie.Need-loop-again Inv-loop μ-loop
 loop-again c = search needs
 
-slice-aggregate-say-2 : tie.Need-slice-aggregate-say-2 Inv-loop μ-loop
-slice-aggregate-say-2 c = search needs
+slice-aggregate-text-2 : tie.Need-slice-aggregate-text-2 Inv-loop μ-loop
+slice-aggregate-text-2 c = search needs
 
-say-requires-2 : tie.Need-say-requires-2 Inv-loop μ-loop
-say-requires-2 c κs = search needs
+text-requires-2 : tie.Need-text-requires-2 Inv-loop μ-loop
+text-requires-2 c κs = search needs
+
+say-requires : tie.Need-say-requires Inv-loop μ-loop
+say-requires c κs = search needs
 
 returns : tie.Need-returns Inv-loop μ-loop
 returns c = search needs
@@ -63,18 +66,19 @@ say-agent-spec =
     (tie.spec
     Inv-loop
     μ-loop
-    say-number-requires
     read-requires
+    empty-requires
+    decimal-requires
     loop-holds
-    slice-aggregate-say
-    say-requires
-    mul-print-hex
-    array-read-print-hex
-    cast-print-hex
-    print-hex-requires
+    slice-aggregate-text
+    text-requires
+    mul-word
+    array-read-word
+    word-requires
     add-place
     loop-less
     loop-again
-    slice-aggregate-say-2
-    say-requires-2
+    slice-aggregate-text-2
+    text-requires-2
+    say-requires
     returns)

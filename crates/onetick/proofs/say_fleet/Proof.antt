@@ -19,6 +19,9 @@ loop-holds c = search needs
 say-agent-requires : tie.Need-say-agent-requires Inv-loop μ-loop
 say-agent-requires c κs = search needs
 
+returns : tie.Need-returns Inv-loop μ-loop
+returns c = search needs
+
 add-index : tie.Need-add-index Inv-loop μ-loop
 add-index c = search needs
 
@@ -28,8 +31,8 @@ loop-less c = search needs
 loop-again : tie.Need-loop-again Inv-loop μ-loop
 loop-again c = search needs
 
-returns : tie.Need-returns Inv-loop μ-loop
-returns c = search needs
+returns-2 : tie.Need-returns-2 Inv-loop μ-loop
+returns-2 c = search needs
 
 pub say-fleet-spec : {M : Type 1} → statement M
 say-fleet-spec =
@@ -40,7 +43,8 @@ say-fleet-spec =
     agent-count-requires
     loop-holds
     say-agent-requires
+    returns
     add-index
     loop-less
     loop-again
-    returns)
+    returns-2)

@@ -6,10 +6,10 @@ use Rattle.replay.proofs.input.pass_over.Statement.{statement}
 use Rattle.replay.proofs.input.pass_over.Tie as tie
 
 abbrev Inv-loop : tie.InvT-loop
-Inv-loop input length left₀ left = left ≤ length
+Inv-loop input name length left₀ left = left ≤ length
 
 abbrev μ-loop : tie.MeasureT-loop
-μ-loop input length left₀ left = left
+μ-loop input name length left₀ left = left
 
 loop-holds : tie.Need-loop-holds Inv-loop μ-loop
 loop-holds c = search needs

@@ -17,6 +17,9 @@ slice-aggregate-say c = search needs
 say-requires : tie.Need-say-requires Inv-loop μ-loop
 say-requires c κs = search needs
 
+returns : tie.Need-returns Inv-loop μ-loop
+returns c = search needs
+
 agent-count-requires : tie.Need-agent-count-requires Inv-loop μ-loop
 agent-count-requires c κs = search needs
 
@@ -29,6 +32,9 @@ read-requires c κs = search needs
 say-read-requires : tie.Need-say-read-requires Inv-loop μ-loop
 say-read-requires c κs = search needs
 
+returns-2 : tie.Need-returns-2 Inv-loop μ-loop
+returns-2 c = search needs
+
 add-index : tie.Need-add-index Inv-loop μ-loop
 add-index c = search needs
 
@@ -38,8 +44,8 @@ loop-less c = search needs
 loop-again : tie.Need-loop-again Inv-loop μ-loop
 loop-again c = search needs
 
-returns : tie.Need-returns Inv-loop μ-loop
-returns c = search needs
+returns-3 : tie.Need-returns-3 Inv-loop μ-loop
+returns-3 c = search needs
 
 pub say-fleet-spec : {M : Type 1} → statement M
 say-fleet-spec =
@@ -49,11 +55,13 @@ say-fleet-spec =
     μ-loop
     slice-aggregate-say
     say-requires
+    returns
     agent-count-requires
     loop-holds
     read-requires
     say-read-requires
+    returns-2
     add-index
     loop-less
     loop-again
-    returns)
+    returns-3)

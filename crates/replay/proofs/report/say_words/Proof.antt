@@ -6,25 +6,37 @@ use Rattle.replay.proofs.report.say_words.Statement.{statement}
 use Rattle.replay.proofs.report.say_words.Tie as tie
 
 abbrev Inv-loop : tie.InvT-loop
-Inv-loop words line₀ place₀ line place = place ≤ 19
+Inv-loop words line₀ place₀ t5 t6 line place = place ≤ 19
 
 abbrev μ-loop : tie.MeasureT-loop
-μ-loop words line₀ place₀ line place = 19 - place
+μ-loop words line₀ place₀ t5 t6 line place = 19 - place
+
+empty-requires : tie.Need-empty-requires Inv-loop μ-loop
+empty-requires c κs = search needs
+
+array-read-word : tie.Need-array-read-word Inv-loop μ-loop
+array-read-word c = search needs
+
+word-requires : tie.Need-word-requires Inv-loop μ-loop
+word-requires c κs = search needs
 
 loop-holds : tie.Need-loop-holds Inv-loop μ-loop
 loop-holds c = search needs
 
-mul-put-word : tie.Need-mul-put-word Inv-loop μ-loop
-mul-put-word c = search needs
+slice-aggregate-text : tie.Need-slice-aggregate-text Inv-loop μ-loop
+slice-aggregate-text c = search needs
 
-mul-put-word-2 : tie.Need-mul-put-word-2 Inv-loop μ-loop
-mul-put-word-2 c = search needs
+text-requires : tie.Need-text-requires Inv-loop μ-loop
+text-requires c κs = search needs
 
-array-read-put-word : tie.Need-array-read-put-word Inv-loop μ-loop
-array-read-put-word c = search needs
+mul-word : tie.Need-mul-word Inv-loop μ-loop
+mul-word c = search needs
 
-put-word-requires : tie.Need-put-word-requires Inv-loop μ-loop
-put-word-requires c κs = search needs
+array-read-word-2 : tie.Need-array-read-word-2 Inv-loop μ-loop
+array-read-word-2 c = search needs
+
+word-requires-2 : tie.Need-word-requires-2 Inv-loop μ-loop
+word-requires-2 c κs = search needs
 
 add-place : tie.Need-add-place Inv-loop μ-loop
 add-place c = search needs
@@ -35,11 +47,14 @@ loop-less c = search needs
 loop-again : tie.Need-loop-again Inv-loop μ-loop
 loop-again c = search needs
 
-array-write-line : tie.Need-array-write-line Inv-loop μ-loop
-array-write-line c = search needs
+slice-aggregate-text-2 : tie.Need-slice-aggregate-text-2 Inv-loop μ-loop
+slice-aggregate-text-2 c = search needs
 
-say-line-requires : tie.Need-say-line-requires Inv-loop μ-loop
-say-line-requires c κs = search needs
+text-requires-2 : tie.Need-text-requires-2 Inv-loop μ-loop
+text-requires-2 c κs = search needs
+
+say-requires : tie.Need-say-requires Inv-loop μ-loop
+say-requires c κs = search needs
 
 returns : tie.Need-returns Inv-loop μ-loop
 returns c = search needs
@@ -50,14 +65,19 @@ say-words-spec =
     (tie.spec
     Inv-loop
     μ-loop
+    empty-requires
+    array-read-word
+    word-requires
     loop-holds
-    mul-put-word
-    mul-put-word-2
-    array-read-put-word
-    put-word-requires
+    slice-aggregate-text
+    text-requires
+    mul-word
+    array-read-word-2
+    word-requires-2
     add-place
     loop-less
     loop-again
-    array-write-line
-    say-line-requires
+    slice-aggregate-text-2
+    text-requires-2
+    say-requires
     returns)
