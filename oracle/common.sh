@@ -1,4 +1,4 @@
-# What run, ticks, spacing, flights, bench and sample share. They source it with the repository as the working directory.
+# What run, ticks, tenticks, spacing, flights, bench and sample share. They source it with the repository as the working directory.
 # shellcheck shell=bash
 
 built=target/oracle

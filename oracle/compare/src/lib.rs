@@ -8,7 +8,8 @@
 //! and from document 01's table where that refuses and the Rust does not.
 //!
 //! The fleet table is compared with the published Simulator in the same way: `flights` draws fleets and the `calls`
-//! on them, `simulated` works out what has to come of these, and `replay` has the program of that name make them.
+//! on them, `simulated` works out what has to come of these, and `replay` has the program of that name make them. The
+//! program tenticks is compared over fleets of the same kinds.
 //!
 //! Some of both are written to files, which the gate runs (`stored`).
 //!
@@ -16,8 +17,10 @@
 //! and `spacing_report` has the program of that name read them.
 pub mod calls;
 pub mod case;
+pub mod file;
 pub mod flights;
 pub mod inputs;
+pub mod piped;
 pub mod positions;
 pub mod published;
 pub mod random;

@@ -17,6 +17,9 @@ pub const OBSTACLE_HORIZON: usize = 16;
 pub const MARGIN: usize = 17;
 pub const DISTANCE: usize = 18;
 
+/// The number of a refusal, and its place.
+pub type Refusal = (usize, usize);
+
 /// All words but the margin are bits of numbers.
 #[derive(Clone, Copy, PartialEq, Eq, Debug)]
 pub struct Record {
@@ -62,18 +65,33 @@ impl Record {
         vector(&self.numbers::<3>(GOAL))
     }
 
-    /// Whether a table takes it: document 01's checks 15, 3, 4 and 5.
-    pub fn is_accepted(&self) -> bool {
-        let margin = match self.words[MARGIN] {
-            0 => self.words[DISTANCE] == 0,
-            word => word == 1,
+    /// Why a table does not take it, number and place: document 01's checks 15, 3, 4 and 5.
+    pub fn refusal(&self) -> Option<Refusal> {
+        match (self.words[MARGIN], self.words[DISTANCE]) {
+            (0, 0) | (1, _) => (),
+            (0, _) => return Some((15, DISTANCE)),
+            _ => return Some((15, MARGIN)),
+        }
+        // the margin, 0 or 1, has the bits of a finite number
+        let endless = (0..WORDS).find(|&place| !self.number(place).is_finite());
+        let out_of_range = |&place: &usize| match place {
+            HORIZON => self.number(place) <= 0.0,
+            _ => self.number(place) < 0.0,
         };
-        let finite = self.numbers::<WORDS>(0).iter().all(|x| x.is_finite());
-        let in_range = [RADIUS, RESPONSIBILITY, MAX_SPEED]
-            .iter()
-            .all(|&place| self.number(place) >= 0.0)
-            && self.number(HORIZON) > 0.0;
-        margin && finite && in_range && is_direction(self.numbers(FALLBACK))
+        let mut ranged = [RADIUS, RESPONSIBILITY, MAX_SPEED, HORIZON].into_iter();
+        if let Some(place) = endless {
+            Some((3, place))
+        } else if let Some(place) = ranged.find(out_of_range) {
+            Some((4, place))
+        } else if !is_direction(self.numbers(FALLBACK)) {
+            Some((5, FALLBACK))
+        } else {
+            None
+        }
+    }
+
+    pub fn is_accepted(&self) -> bool {
+        self.refusal().is_none()
     }
 
     /// With that velocity, and moved by it: what a close makes of it.

@@ -5,8 +5,9 @@ use std::mem;
 
 use dodgy_3d::{Agent, Simulator, Vec3};
 
-use crate::calls::{Call, Flight, Rule, ENOUGH};
+use crate::calls::{Call, File, Flight, Rule};
 use crate::case::{Case, Reply, NO_NEIGHBOUR, NO_PLANE};
+use crate::file::{self, RECORD};
 use crate::published::{caught, expected, vector, Expected};
 use crate::record::*;
 
@@ -16,19 +17,33 @@ pub type Counts = BTreeMap<String, u64>;
 /// What is counted of an accepted close begins with this.
 pub const CLOSED: &str = "close by the";
 
-/// The lines of a part of a flight, and the records before it. Where the Rust does what document 01 does not foresee,
-/// the line says so; replay prints no such line, and the two differ there.
+/// What each byte of a buffer is before a save.
+const UNTOUCHED: u8 = 0xa5;
+
+/// The lines of a part of a flight, the last of them those of the agents after it, and the records before it. Where the
+/// Rust does what document 01 does not foresee, the line says so; replay prints no such line, and the two differ there.
 pub struct Part {
     pub before: Vec<Record>,
+    pub agents: usize,
     pub lines: Vec<String>,
 }
 
 pub struct Outcome {
     /// The load; each tick; the fleet at the end.
     pub parts: Vec<Part>,
-    /// The flight in the canonical order.
+    /// The flight as it is made, with the bytes of every file.
+    pub made: Flight,
+    /// The same in the canonical order.
     pub canonical: Flight,
     pub counts: Counts,
+}
+
+impl Outcome {
+    /// The agents that there are after each tick.
+    pub fn agents(&self) -> Vec<usize> {
+        let ticks = &self.parts[1..=self.made.ticks.len()];
+        ticks.iter().map(|part| part.agents).collect()
+    }
 }
 
 /// Whether a rule keeps another: the source rule by document 01's q, which is the Rust's, and the near rule by
@@ -56,8 +71,22 @@ fn neighbours(records: &[Record], index: usize, rule: Rule) -> Vec<usize> {
         .collect()
 }
 
+/// What a scratch of a length holds before a plan: zeros, or where it is shown the numbers from these bits on.
+fn lent_scratch(length: usize, shown: Option<u32>) -> Vec<u32> {
+    match shown {
+        None => vec![0; length],
+        Some(first) => (0..length).map(|i| first.wrapping_add(i as u32)).collect(),
+    }
+}
+
 /// The velocity call that a plan is.
-fn case(records: &[Record], index: usize, kept: &[usize], time_step: f32, scratch: usize) -> Case {
+fn case(
+    records: &[Record],
+    index: usize,
+    kept: &[usize],
+    time_step: f32,
+    scratch: Vec<u32>,
+) -> Case {
     let own = &records[index];
     let preferred: Vec3 = own.goal() - own.position();
     let mut request = own.numbers::<8>(0).to_vec();
@@ -70,27 +99,52 @@ fn case(records: &[Record], index: usize, kept: &[usize], time_step: f32, scratc
             .iter()
             .flat_map(|&k| records[k].numbers::<8>(0))
             .collect(),
-        scratch: vec![0; scratch],
+        scratch,
         velocity: vec![0; 3],
     }
 }
 
-fn plan_line(reply: &Reply, kept: &[usize]) -> String {
-    let words = || {
-        reply
-            .velocity
-            .iter()
-            .map(|w| format!("{w:08x}"))
-            .collect::<Vec<_>>()
-            .join(" ")
+/// Words, each after a space.
+fn spaced(words: impl IntoIterator<Item = u32>) -> String {
+    let words = words.into_iter().map(|word| format!(" {word:08x}"));
+    words.collect()
+}
+
+/// How a scratch is shown: a NaN by the bits of one, whichever it is.
+fn scratch_text(words: &[u32]) -> String {
+    let shown = |&word: &u32| match f32::from_bits(word).is_nan() {
+        true => 0x7fc0_0000,
+        false => word,
     };
+    format!(" scratch{}", spaced(words.iter().map(shown)))
+}
+
+fn buffer_text(bytes: &[u8]) -> String {
+    let digits: String = bytes.iter().map(|byte| format!("{byte:02x}")).collect();
+    let space = if bytes.is_empty() { "" } else { " " };
+    format!(" buffer{space}{digits}")
+}
+
+/// How a refused call leaves what it was lent and is shown: as it was.
+fn untouched(call: &Call) -> String {
+    match *call {
+        Call::Plan { scratch, shown, .. } if shown.is_some() => {
+            scratch_text(&lent_scratch(scratch, shown))
+        }
+        Call::Save(length) => buffer_text(&vec![UNTOUCHED; length]),
+        _ => String::new(),
+    }
+}
+
+fn plan_line(reply: &Reply, kept: &[usize]) -> String {
+    let words = || spaced(reply.velocity.iter().copied());
     let unseen = match reply.unseen {
         NO_NEIGHBOUR => String::new(),
         neighbour => format!(" unseen {}", kept[neighbour as usize]),
     };
     match (reply.answer, reply.relaxed) {
-        (0, NO_PLANE) => format!("velocity {} free{unseen}", words()),
-        (0, plane) => format!("velocity {} relaxed {plane}{unseen}", words()),
+        (0, NO_PLANE) => format!("velocity{} free{unseen}", words()),
+        (0, plane) => format!("velocity{} relaxed {plane}{unseen}", words()),
         // the place is the neighbour's table index; 18's is the plane of the call
         (6, _) => format!("refused 6 {}", kept[reply.place as usize]),
         (number, _) => format!("refused {number} {}", reply.place),
@@ -137,6 +191,8 @@ struct Fleet {
     records: Vec<Record>,
     tick: Option<Tick>,
     simulator: Simulator,
+    /// what the saves wrote
+    saved: Vec<Vec<u8>>,
     /// the calls so far that take effect, in the canonical order
     canonical: Vec<Call>,
     counts: Counts,
@@ -148,6 +204,7 @@ impl Fleet {
             records: records.to_vec(),
             tick: None,
             simulator: simulator(records),
+            saved: Vec::new(),
             canonical: Vec::new(),
             counts: Counts::new(),
         }
@@ -167,11 +224,22 @@ impl Fleet {
             .expect("a call is refused where it needs a tick")
     }
 
-    /// Document 01's refusal, number and place, but for those that plan passes on and for 13.
-    fn refusal(&self, call: &Call) -> Option<(usize, usize)> {
+    /// The call with the bytes of its file.
+    fn made(&self, call: &Call) -> Call {
+        let mut made = call.clone();
+        if let Some(file) = made.file_mut() {
+            if let File::Saved(number) = *file {
+                *file = File::Bytes(self.saved[number].clone());
+            }
+        }
+        made
+    }
+
+    /// Document 01's refusal, number and place, but for those that plan passes on and for 13; and document 02's 16.
+    fn refusal(&self, call: &Call) -> Option<Refusal> {
         let nobody = |agent: usize| (agent >= self.records.len()).then_some((8, agent));
         match (call, &self.tick) {
-            (Call::Remove(_) | Call::Open { .. }, Some(_)) => Some((10, 0)),
+            (Call::Remove(_) | Call::Open { .. } | Call::Load(_), Some(_)) => Some((10, 0)),
             (Call::Plan { .. } | Call::Close | Call::Drop, None) => Some((11, 0)),
             (Call::Remove(agent) | Call::Read(agent) | Call::Plan { agent, .. }, _) => {
                 nobody(*agent)
@@ -184,21 +252,30 @@ impl Fleet {
                 let unplanned = tick.plans.iter().position(Option::is_none)?;
                 Some((12, unplanned))
             }
+            (Call::Load(file), None) => file::loaded(file.bytes()).err(),
+            (Call::Save(length), _) => {
+                let needed = RECORD * self.records.len();
+                (*length < needed).then_some((16, needed))
+            }
+            (Call::Record { index, file }, _) => file::read(file.bytes(), *index).err(),
             (Call::Open { .. }, None) | (Call::Drop, Some(_)) => None,
         }
     }
 
-    fn refused(&mut self, call: &Call, (number, place): (usize, usize)) -> String {
+    fn refused(&mut self, call: &Call, (number, place): Refusal) -> String {
         self.count(format!("{} refused {number}", call.name()));
+        if let Call::Plan { shown: Some(_), .. } = call {
+            self.count(format!("scratch after {number}"));
+        }
         format!("refused {number} {place}")
     }
 
     /// The line that has to come of a call.
-    fn answer(&mut self, call: Call) -> String {
-        if let Some(refusal) = self.refusal(&call) {
-            return self.refused(&call, refusal);
+    fn answer(&mut self, call: &Call) -> String {
+        if let Some(refusal) = self.refusal(call) {
+            return self.refused(call, refusal) + &untouched(call);
         }
-        match call {
+        match *call {
             Call::Remove(agent) => self.remove(agent),
             Call::Read(agent) => return self.read(agent),
             Call::Goal { agent, to } if self.tick.is_some() => self.hold_goal(agent, to),
@@ -207,14 +284,52 @@ impl Fleet {
                 self.set_goal(agent, to);
             }
             Call::Open { time_step, rule } => self.open(time_step, rule),
-            Call::Plan { agent, scratch } => return self.plan(agent, scratch),
+            Call::Plan {
+                agent,
+                scratch,
+                shown,
+            } => return self.plan(agent, scratch, shown),
             Call::Close => return self.close(),
             Call::Drop => {
                 self.count("drop");
-                self.end(call);
+                self.end(Call::Drop);
             }
+            Call::Load(ref file) => self.load(file.bytes()),
+            Call::Save(length) => return self.save(length),
+            Call::Record { index, ref file } => return self.record(index, file.bytes()),
         }
         "done".into()
+    }
+
+    fn load(&mut self, file: &[u8]) {
+        let saved = self.saved.iter().any(|saved| saved == file);
+        let what = if saved { "a saved" } else { "another" };
+        self.count(format!("load of {what} file"));
+        let load = Call::Load(File::Bytes(file.to_vec()));
+        self.canonical.push(load);
+        self.records = file::loaded(file).expect("a file that is refused is not loaded");
+        self.simulator = simulator(&self.records);
+    }
+
+    /// A save into a buffer that is long enough: the standing records, whatever was planned or is held.
+    fn save(&mut self, length: usize) -> String {
+        self.count(match &self.tick {
+            None => "save outside a tick",
+            Some(tick) if tick.held.is_empty() => "save in a tick",
+            Some(_) => "save in a tick with a goal held",
+        });
+        let file = file::of(&self.records);
+        let mut buffer = vec![UNTOUCHED; length];
+        buffer[..file.len()].copy_from_slice(&file);
+        let line = format!("saved {}{}", file.len(), buffer_text(&buffer));
+        self.saved.push(file);
+        line
+    }
+
+    fn record(&mut self, index: usize, file: &[u8]) -> String {
+        self.count("record");
+        let record = file::read(file, index);
+        record.expect("a record that is refused is not read").text()
     }
 
     fn remove(&mut self, agent: usize) {
@@ -256,12 +371,10 @@ impl Fleet {
             held: Vec::new(),
         });
         self.canonical.push(Call::Open { time_step, rule });
-        let scratch = ENOUGH;
-        let plans = (0..count).map(|agent| Call::Plan { agent, scratch });
-        self.canonical.extend(plans);
+        self.canonical.extend((0..count).map(Call::plan));
     }
 
-    fn plan(&mut self, agent: usize, scratch: usize) -> String {
+    fn plan(&mut self, agent: usize, scratch: usize, shown: Option<u32>) -> String {
         let &mut Tick {
             time_step, rule, ..
         } = self.tick();
@@ -269,6 +382,7 @@ impl Fleet {
         let what = format!("neighbour by the {} rule", rule.name());
         self.add(what, kept.len() as u64);
         let asked = rand::calls();
+        let scratch = lent_scratch(scratch, shown);
         let reply = match expected(&case(&self.records, agent, &kept, time_step, scratch)) {
             Expected::Reply(reply) | Expected::Panic(reply) => reply,
             Expected::LeftOut => return "a direction by chance that is not the fallback".into(),
@@ -292,7 +406,15 @@ impl Fleet {
             let numbers = [0, 1, 2].map(|axis| f32::from_bits(reply.velocity[axis]));
             self.tick().plans[agent] = Some(vector(&numbers));
         }
-        plan_line(&reply, &kept)
+        let mut line = plan_line(&reply, &kept);
+        if shown.is_some() {
+            self.count(match reply.answer {
+                0 => "scratch with planes".into(),
+                number => format!("scratch after {number}"),
+            });
+            line += &scratch_text(&reply.scratch);
+        }
+        line
     }
 
     /// A close with all planned.
@@ -342,29 +464,100 @@ impl Fleet {
 
 pub fn outcome(flight: &Flight) -> Outcome {
     let mut fleet = Fleet::of(&flight.records);
-    let mut ticks = Vec::new();
+    let flight_of = |ticks| Flight {
+        records: flight.records.clone(),
+        ticks,
+    };
+    let (mut made, mut canonical) = (Vec::new(), Vec::new());
     let mut parts = vec![Part {
         before: Vec::new(),
+        agents: 0,
         lines: vec!["done".into()],
     }];
-    for calls in flight.parts() {
+    for calls in &flight.ticks {
         let before = fleet.records.clone();
-        let lines = calls.into_iter().map(|call| fleet.answer(call)).collect();
-        parts.push(Part { before, lines });
-        ticks.push(mem::take(&mut fleet.canonical));
+        let (calls, mut lines): (Vec<Call>, Vec<String>) = calls
+            .iter()
+            .map(|call| {
+                let made = fleet.made(call);
+                let line = fleet.answer(&made);
+                (made, line)
+            })
+            .unzip();
+        lines.extend(fleet.records.iter().map(Record::text));
+        parts.push(Part {
+            before,
+            agents: fleet.records.len(),
+            lines,
+        });
+        made.push(calls);
+        canonical.push(mem::take(&mut fleet.canonical));
     }
     let mut lines = vec!["fleet".into()];
     lines.extend(fleet.records.iter().map(Record::text));
     parts.push(Part {
+        agents: fleet.records.len(),
         before: fleet.records,
         lines,
     });
     Outcome {
         parts,
-        canonical: Flight {
-            records: flight.records.clone(),
-            ticks,
-        },
+        made: flight_of(made),
+        canonical: flight_of(canonical),
         counts: fleet.counts,
+    }
+}
+
+/// The ticks of the program tenticks, and their step.
+const TICKS: usize = 10;
+const TIME_STEP: f32 = 0.5;
+
+impl Fleet {
+    /// A tick by the near rule, as tenticks makes it: the line of the first call that is refused.
+    fn near_tick(&mut self) -> Result<(), String> {
+        let open = Call::Open {
+            time_step: TIME_STEP,
+            rule: Rule::Near,
+        };
+        let plans = (0..self.records.len()).map(Call::plan);
+        let mut calls = [open].into_iter().chain(plans).chain([Call::Close]);
+        calls.try_for_each(|call| match self.answer(&call) {
+            line if line == "done" || line.starts_with("velocity") => Ok(()),
+            line => Err(line),
+        })
+    }
+
+    fn ten_ticks(&mut self) -> Result<(), String> {
+        (0..TICKS).try_for_each(|tick| {
+            self.near_tick().inspect_err(|line| {
+                if tick > 0 {
+                    let number = line.split(' ').nth(1).unwrap_or_default();
+                    self.count(format!("refused {number} after the first tick"));
+                }
+            })
+        })
+    }
+}
+
+/// What tenticks has to write for a file, the fleet's file after ten ticks or the line of the first refused call, and what
+/// is counted of it.
+pub fn ten_ticks(file: &[u8]) -> (Vec<u8>, Counts) {
+    let mut fleet = Fleet::of(&[]);
+    let result = match file::loaded(file) {
+        Ok(records) => {
+            fleet = Fleet::of(&records);
+            fleet.ten_ticks()
+        }
+        Err(refusal) => {
+            let load = Call::Load(File::Bytes(file.to_vec()));
+            Err(fleet.refused(&load, refusal))
+        }
+    };
+    match result {
+        Ok(()) => {
+            fleet.count("fleet written");
+            (file::of(&fleet.records), fleet.counts)
+        }
+        Err(line) => (format!("{line}\n").into_bytes(), fleet.counts),
     }
 }

@@ -1,5 +1,5 @@
-//! Writes the stored flights: a few small ones of every kind, in which as much is seen as can be, each with what document
-//! 01 and the published Rust make of it.
+//! Writes the stored flights: a few small ones, in which as much is seen as can be, each with what document 01 and the
+//! published Rust make of it. There is no file in them, and no scratch is shown; scripts.txt has such calls.
 //!
 //!     flights SEED FILE
 //!
@@ -9,8 +9,8 @@ use std::collections::BTreeSet;
 use std::process::ExitCode;
 use std::{fs, io};
 
-use compare::calls::Flight;
-use compare::flights::draw;
+use compare::calls::{Call, Flight};
+use compare::flights::draw_plain;
 use compare::record::WORDS;
 use compare::simulated::{outcome, Outcome};
 use compare::stored::write_by;
@@ -24,8 +24,9 @@ const TICKS: [usize; 2] = [1, 2];
 
 struct Drawn {
     name: String,
-    flight: Flight,
     outcome: Outcome,
+    /// with the reads after each tick
+    calls: Vec<Call>,
     /// What is seen in it, which for another kind of flight is something else.
     seen: BTreeSet<String>,
 }
@@ -33,7 +34,7 @@ struct Drawn {
 impl Drawn {
     /// The flight of a number, if it is a small one.
     fn small(seed: u64, index: u64) -> Option<Drawn> {
-        let (kind, flight) = draw(seed, index);
+        let (kind, flight) = draw_plain(seed, index);
         if !AGENTS.contains(&flight.records.len()) || !TICKS.contains(&flight.ticks.len()) {
             return None;
         }
@@ -42,20 +43,20 @@ impl Drawn {
         Some(Drawn {
             name: format!("{kind:?}-{index}").to_lowercase(),
             seen: counted.map(|what| format!("{kind:?}: {what}")).collect(),
-            flight,
+            calls: outcome.made.with_reads(&outcome.agents()).concat(),
             outcome,
         })
     }
 
     /// How much is seen in it that was not yet; of two with as much the shorter one is better.
     fn worth(&self, seen: &BTreeSet<String>) -> (usize, Reverse<usize>) {
-        let calls = self.flight.parts().flatten().count();
+        let calls = self.calls.len();
         (self.seen.difference(seen).count(), Reverse(calls))
     }
 
     /// The fleet file by its words, and each call with the line that has to come.
     fn script(&self) -> String {
-        let Flight { records, .. } = &self.flight;
+        let Flight { records, .. } = &self.outcome.made;
         let mut lines = vec![
             format!("\ninput {}", self.name),
             format!("words {}", 4 * WORDS * records.len()),
@@ -66,7 +67,7 @@ impl Drawn {
         let wanted = self.outcome.parts.iter().flat_map(|part| &part.lines);
         let mut wanted = wanted.map(|line| format!("> {line}"));
         lines.extend(wanted.next());
-        for call in self.flight.parts().flatten() {
+        for call in &self.calls {
             lines.push(call.text());
             lines.extend(wanted.next());
         }

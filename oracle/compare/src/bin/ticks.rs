@@ -14,7 +14,7 @@ use compare::flights::{draw, KINDS};
 use compare::published::catch_quietly;
 use compare::record::{Record, WORDS};
 use compare::replay::run;
-use compare::simulated::{outcome, Counts, Outcome, CLOSED};
+use compare::simulated::{outcome, Counts, Outcome, Part, CLOSED};
 
 /// How many differences are shown.
 const SHOWN: u64 = 4;
@@ -40,19 +40,16 @@ fn unlike(part: usize, by: &'static str, wanted: &[String], got: &[String]) -> O
     })
 }
 
-fn difference(
-    command: &[String],
-    flight: &Flight,
-    outcome: &Outcome,
-) -> io::Result<Option<Difference>> {
-    let got = run(command, flight)?;
-    let canonical = run(command, &outcome.canonical)?;
-    // a part ends with the fleet
-    let fleet = |lines: &[String]| lines.len().saturating_sub(flight.records.len());
+fn difference(command: &[String], outcome: &Outcome) -> io::Result<Option<Difference>> {
+    let agents = outcome.agents();
+    let got = run(command, &outcome.made, &agents)?;
+    let canonical = run(command, &outcome.canonical, &agents)?;
     Ok((0..got.len()).find_map(|part| {
         let (got, ordered) = (&got[part], &canonical[part]);
-        let wanted = &outcome.parts[part].lines;
-        unlike(part, "document 01 and the Rust", wanted, got).or_else(|| {
+        let Part { lines, agents, .. } = &outcome.parts[part];
+        unlike(part, "document 01 and the Rust", lines, got).or_else(|| {
+            // a part ends with the fleet
+            let fleet = |lines: &[String]| lines.len().saturating_sub(*agents);
             let (ordered, got) = (&ordered[fleet(ordered)..], &got[fleet(got)..]);
             unlike(part, "the canonical order", ordered, got)
         })
@@ -60,8 +57,8 @@ fn difference(
 }
 
 /// The flight of one tick, on the records before it.
-fn alone(flight: &Flight, outcome: &Outcome, part: usize) -> Option<Flight> {
-    let calls = flight.ticks.get(part.checked_sub(1)?)?.clone();
+fn alone(outcome: &Outcome, part: usize) -> Option<Flight> {
+    let calls = outcome.made.ticks.get(part.checked_sub(1)?)?.clone();
     Some(Flight {
         records: outcome.parts[part].before.clone(),
         ticks: vec![calls],
@@ -81,7 +78,7 @@ impl Differing<'_> {
         if !less.records.iter().all(Record::is_accepted) {
             return Ok(());
         }
-        if let Some(difference) = difference(self.command, &less, &outcome(&less))? {
+        if let Some(difference) = difference(self.command, &outcome(&less))? {
             if difference.by == self.difference.by {
                 self.flight = less;
                 self.difference = difference;
@@ -104,9 +101,9 @@ impl Differing<'_> {
 
     fn make_small(&mut self) -> io::Result<()> {
         self.reduce_at_each(|flight| flight.ticks.len(), Flight::without_tick)?;
-        self.reduce_at_each(|flight| flight.records.len(), Flight::without_agent)?;
+        self.reduce_at_each(Flight::most_agents, Flight::without_agent)?;
         self.reduce_at_each(Flight::call_count, Flight::without_call)?;
-        self.reduce_at_each(|flight| flight.records.len(), Flight::without_agent)?;
+        self.reduce_at_each(Flight::most_agents, Flight::without_agent)?;
         self.reduce_at_each(|flight| WORDS * flight.records.len(), Flight::with_zero)
     }
 
@@ -115,7 +112,7 @@ impl Differing<'_> {
             println!("  {}", record.text());
         }
         for call in self.flight.ticks.iter().flatten() {
-            println!("  {}", call.text());
+            println!("  {}", call.text().replace('\n', "\n  "));
         }
         let Difference {
             by, wanted, got, ..
@@ -134,10 +131,11 @@ struct Tally {
 }
 
 impl Tally {
-    fn count(&mut self, flight: &Flight, counts: &Counts, differs: bool) {
+    fn count(&mut self, outcome: &Outcome, differs: bool) {
         self.flights += 1;
-        self.most_agents = self.most_agents.max(flight.records.len());
-        for (what, often) in counts {
+        let agents = outcome.parts.iter().map(|part| part.agents);
+        self.most_agents = agents.chain([self.most_agents]).max().unwrap_or(0);
+        for (what, often) in &outcome.counts {
             *self.counts.entry(what.clone()).or_default() += often;
         }
         self.different += u64::from(differs);
@@ -169,16 +167,11 @@ impl Tally {
     }
 }
 
-fn show_small(
-    command: &[String],
-    flight: Flight,
-    found: &Outcome,
-    difference: Difference,
-) -> io::Result<()> {
-    let one = alone(&flight, found, difference.part);
+fn show_small(command: &[String], found: Outcome, difference: Difference) -> io::Result<()> {
+    let one = alone(&found, difference.part);
     let mut differing = Differing {
         command,
-        flight,
+        flight: found.made,
         difference,
     };
     one.map_or(Ok(()), |one| differing.reduce(one))?;
@@ -194,13 +187,13 @@ fn compare(seed: u64, ticks: u64, command: &[String]) -> io::Result<Tally> {
     while all.closed() < ticks {
         let (kind, flight) = draw(seed, index);
         let found = outcome(&flight);
-        let differs = difference(command, &flight, &found)?;
-        all.count(&flight, &found.counts, differs.is_some());
-        of_kind[kind as usize].count(&flight, &found.counts, differs.is_some());
+        let differs = difference(command, &found)?;
+        all.count(&found, differs.is_some());
+        of_kind[kind as usize].count(&found, differs.is_some());
         if let (Some(difference), true) = (differs, all.different <= SHOWN) {
             let part = difference.part;
             println!("seed {seed}, flight {index}, {kind:?}, part {part}, made small:");
-            show_small(command, flight, &found, difference)?;
+            show_small(command, found, difference)?;
         }
         index += 1;
     }
