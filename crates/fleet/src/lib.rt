@@ -23,7 +23,9 @@ pub enum Answer {
     Refused(Refusal),
 }
 
-// Which others a plan keeps as neighbours: the Rust's rule, or the near ones.
+// Which others a plan keeps as neighbours, and so avoids. `Near` keeps those that can touch within the horizon, and is
+// the rule of a hangar. `Source` is the Rust's, kept to be compared with it: it avoids the far ones and SKIPS THE NEAR
+// ONES. Nobody is to fly by it.
 pub enum Rule {
     Source,
     Near,

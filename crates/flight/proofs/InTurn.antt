@@ -1,4 +1,4 @@
--- Ticks one after another: one tick fewer is left after each, a file is loaded before the first, and they may be cut anywhere (`more-ticks`).
+-- Ticks one after another: one tick fewer is left after each, a file is loaded before the first and saved after one, and they may be cut anywhere (`more-ticks`).
 use mathlib.Core.Path.{_≡_, refl, sym, ap, _∙_}
 use mathlib.Core.Bool.{Bool, true, false}
 use mathlib.Core.List.{List, []}
@@ -13,7 +13,8 @@ use Rattle.fleet.specs.declared.Called.{Called}
 use Rattle.fleet.specs.declared.Answer.the-variants.{Done}
 use Rattle.fleet.specs.Table.{fleetOf}
 use Rattle.fleet.specs.Load.{loadCall}
-use Rattle.flight.specs.Tick.{isRefused, unlessRefused, oneTick, ticksInTurn, fileFlown}
+use Rattle.fleet.specs.Save.{bufferAfter}
+use Rattle.flight.specs.Tick.{isRefused, unlessRefused, oneTick, ticksInTurn, fileFlown, fileAfter}
 use Rattle.flight.specs.Claims.{MoreTicks}
 use Rattle.flight.proofs.Steps.{not-refused, handed-on, goes-on}
 
@@ -45,6 +46,17 @@ module _ (file : List ℕ) (empty : Fleet) (none : empty ≡ fleetOf []) (loaded
   pub load-done : isRefused loaded ≡ false → ticksInTurn n timeStep rule (loaded .fleet) ≡ fileFlown file n timeStep rule
   unfolding fileFlown
   load-done e = rw (← none, ← is) (goes-on loaded (ticksInTurn n timeStep rule) e)
+
+-- ---- one tick in place of a file
+
+module _ (file : List ℕ) (timeStep : Float) (rule : Rule) (flown : Called) (is : flown ≡ fileFlown file 1 timeStep rule) where
+  pub file-kept : isRefused flown ≡ true → file ≡ fileAfter file timeStep rule
+  unfolding fileAfter
+  file-kept e = rw (← is, e)
+
+  pub file-saved : isRefused flown ≡ false → bufferAfter (flown .fleet) file ≡ fileAfter file timeStep rule
+  unfolding fileAfter
+  file-saved e = rw (← is, e)
 
 -- ---- some ticks, and then some more
 

@@ -1,4 +1,5 @@
--- A tick in one piece: open, plan every agent by rising index, close; ticks one after another; and those of a file's fleet.
+-- A tick in one piece: open, plan every agent by rising index, close; ticks one after another; those of a file's fleet; and one in
+-- place of the file.
 use Prim.Native.Nat.{ℕ, zero, suc}
 use mathlib.Core.Bool.{Bool, not, cond}
 use mathlib.Core.List.{List, []}
@@ -8,11 +9,13 @@ use lib.Ieee.{Float}
 use Rattle.avoidance.specs.Checks.{fullScratch}
 use Rattle.fleet.specs.declared.Rule.{Rule}
 use Rattle.fleet.specs.declared.Fleet.{Fleet}
+use Rattle.fleet.specs.declared.Answer.{Answer}
 use Rattle.fleet.specs.declared.Called.{Called}
 use Rattle.fleet.specs.declared.Answer.the-variants.{Done}
 use Rattle.fleet.specs.Answer.{number}
 use Rattle.fleet.specs.Table.{agents, fleetOf}
 use Rattle.fleet.specs.Load.{loadCall}
+use Rattle.fleet.specs.Save.{bufferAfter}
 use Rattle.fleet.specs.Tick.{openCall, closeCall, dropCall}
 use Rattle.fleet.specs.Plan.{planCall}
 
@@ -51,3 +54,9 @@ ticksInTurn (suc n) timeStep rule fleet = unlessRefused (oneTick timeStep rule f
 -- a fleet file loaded onto an empty table, and so many ticks of its fleet: a load that is refused is handed back
 unfoldable pub fileFlown : List ℕ → ℕ → Float → Rule → Called
 fileFlown file n timeStep rule = unlessRefused (loadCall (fleetOf []) file) (ticksInTurn n timeStep rule)
+
+-- what one tick of a file's fleet leaves in the file: the fleet after it, saved; and the file as it was where a call is refused
+unfoldable pub fileAfter : List ℕ → Float → Rule → List ℕ
+fileAfter file timeStep rule =
+    let flown = fileFlown file 1 timeStep rule in
+    cond (isRefused flown) file (bufferAfter (flown .fleet) file)

@@ -6,7 +6,7 @@ ghost use lib.ListN.{length};
 ghost use Rattle.fleet.specs.Tick.{closeCall};
 ghost use Rattle.fleet.specs.Table.{agents};
 ghost use Rattle.fleet.specs.Plan.{planCall};
-ghost use Rattle.flight.specs.Tick.{isRefused, unlessRefused, firstPlanned, orDropped, flown, oneTick, ticksInTurn, fileFlown};
+ghost use Rattle.flight.specs.Tick.{isRefused, unlessRefused, firstPlanned, orDropped, flown, oneTick, ticksInTurn, fileFlown, fileAfter};
 use avoidance::FULL_SCRATCH;
 use fleet::Answer;
 use fleet::Called;
@@ -121,4 +121,20 @@ pub fn file_flown(file: &[u8], ticks: usize, time_step: f32, rule: Rule) -> Call
     }
     let fleet = loaded.fleet;
     ticks_in_turn(fleet, ticks, time_step, rule)
+}
+
+// One tick in place of a lent file: its fleet is loaded, flown and saved. The answer is the first refused call's, and a
+// refused one leaves every byte as it was.
+pub fn tick_in_place(file: &mut [u8], time_step: f32, rule: Rule) -> Answer
+    ensures answer { λ r. ⌜ r ≡ fileFlown (now (file .entry)) 1 «time_step» rule .answer ⌝ }
+    ensures file { λ _. ⌜ now (file .exit) ≡ fileAfter (now (file .entry)) «time_step» rule ⌝ }
+{
+    let flown = file_flown(file, 1, time_step, rule);
+    let answer = flown.answer;
+    if is_refused(flown) {
+        return answer;
+    }
+    let fleet = flown.fleet;
+    fleet.save(file);
+    answer
 }

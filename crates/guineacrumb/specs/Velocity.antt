@@ -8,16 +8,13 @@ use lib.Ieee.{Float}
 use Rattle.vectors.specs.declared.Vec3.{Vec3}
 use Rattle.refusals.specs.declared.Found.{Found}
 use Rattle.refusals.specs.declared.Found.the-variants.{At, Nothing}
+use Rattle.guineacrumb.specs.Unfit.{unfit}
 use Rattle.avoidance.specs.declared.Reply.{Reply}
 use Rattle.avoidance.specs.Request.{perRequest, requestAt}
 use Rattle.avoidance.specs.Reply.{number, placeOf, velocityOf, relaxedOf, unseenOf}
 use Rattle.avoidance.specs.Velocity.{velocityCall, scratchAfter}
 
 -- ---- lengths
-
--- the answer to a request or a velocity of another length: no number of document 01
-abbrev pub badLengths : ℕ
-badLengths = 255
 
 -- a request is the 17 numbers of places 0 to 16, and a velocity 3
 unfoldable pub fits : List Float → List Float → Bool
@@ -44,7 +41,7 @@ replyTo request neighbours scratch = velocityCall (requestAt request) neighbours
 
 unfoldable pub answer : List Float → List Float → List Float → List Float → ℕ
 answer request neighbours scratch velocity =
-    cond (fits request velocity) (number (replyTo request neighbours scratch)) badLengths
+    cond (fits request velocity) (number (replyTo request neighbours scratch)) unfit
 
 unfoldable pub scratchLeft : List Float → List Float → List Float → List Float → List Float
 scratchLeft request neighbours scratch velocity =

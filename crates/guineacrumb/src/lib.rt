@@ -3,20 +3,36 @@
 ghost use mathlib.Core.Path.{_≡_};
 ghost use lib.ListN.{length};
 ghost use Rattle.vectors.specs.Root.{root};
+ghost use Rattle.fleet.specs.Answer.{number, placeOf};
+ghost use Rattle.flight.specs.Tick.{fileFlown, fileAfter};
+ghost use Rattle.guineacrumb.specs.Version.{version};
+ghost use Rattle.guineacrumb.specs.Tick.{tickAnswer, fileLeft, tickPlaceLeft};
 ghost use Rattle.guineacrumb.specs.Velocity.{componentsOf, orNone, answer, scratchLeft, velocityLeft, placeLeft, relaxedLeft, unseenLeft};
 use avoidance::ReadRequest;
 use avoidance::Request;
+use fleet::Rule;
 use refusals::Found;
 use vectors::Vec3;
 
-// The answer to lengths that do not fit.
-const BAD_LENGTHS: u32 = 255;
+// The answer to arguments that do not fit: lengths, or a rule that there is not.
+const UNFIT: u32 = 255;
+
+// The version of the library, a byte each for its three numbers.
+const VERSION: u32 = 0x00_01_00;
 
 // The numbers of a velocity.
 const VELOCITY_NUMBERS: usize = 3;
 
 // What stands for no plane, and for no neighbour.
 const NONE: u64 = 0xFFFF_FFFF_FFFF_FFFF;
+
+// The version that include/guineacrumb.h names.
+#[no_mangle]
+pub extern "C" fn guineacrumb_version() -> u32
+    ensures { λ r. ⌜ r ≡ version ⌝ }
+{
+    VERSION
+}
 
 // The nearest binary32 to the root of x.
 #[no_mangle]
@@ -64,10 +80,10 @@ pub extern "C" fn guineacrumb_velocity(
     ensures unseen { λ _. ⌜ now (unseen .exit) ≡ unseenLeft (now (request .entry)) (now (neighbours .entry)) (now (scratch .entry)) (now (velocity .entry)) (now (unseen .entry)) ⌝ }
 {
     if velocity.len() != VELOCITY_NUMBERS {
-        return BAD_LENGTHS;
+        return UNFIT;
     }
     let ReadRequest::Is(asked) = Request::read(request) else {
-        return BAD_LENGTHS;
+        return UNFIT;
     };
     let reply = avoidance::velocity::velocity(asked, neighbours, scratch);
     write(velocity, reply.velocity());
@@ -75,4 +91,36 @@ pub extern "C" fn guineacrumb_velocity(
     *relaxed = or_none(reply.relaxed());
     *unseen = or_none(reply.unseen());
     reply.number()
+}
+
+fn ticked(file: &mut [u8], time_step: f32, rule: Rule, place: &mut u64) -> u32
+    ensures answer { λ r. ⌜ r ≡ number (fileFlown (now (file .entry)) 1 «time_step» rule .answer) ⌝ }
+    ensures file { λ _. ⌜ now (file .exit) ≡ fileAfter (now (file .entry)) «time_step» rule ⌝ }
+    ensures place { λ _. ⌜ now (place .exit) ≡ placeOf (fileFlown (now (file .entry)) 1 «time_step» rule .answer) ⌝ }
+{
+    let answer = flight::tick_in_place(file, time_step, rule);
+    *place = answer.place() as u64;
+    answer.number()
+}
+
+// One whole tick in place of a lent fleet file, by the source rule, 0, or the near rule, 1. The answer is the first
+// refused call's, and a refused one leaves every byte as it was.
+#[no_mangle]
+pub extern "C" fn guineacrumb_tick(
+    file: &mut [u8],
+    time_step: f32,
+    rule: u32,
+    place: &mut u64,
+) -> u32
+    ensures answer { λ r. ⌜ r ≡ tickAnswer (now (file .entry)) «time_step» rule ⌝ }
+    ensures file { λ _. ⌜ now (file .exit) ≡ fileLeft (now (file .entry)) «time_step» rule ⌝ }
+    ensures place { λ _. ⌜ now (place .exit) ≡ tickPlaceLeft (now (file .entry)) «time_step» rule (now (place .entry)) ⌝ }
+{
+    if rule == 0 {
+        return ticked(file, time_step, Rule::Source, place);
+    }
+    if rule == 1 {
+        return ticked(file, time_step, Rule::Near, place);
+    }
+    UNFIT
 }
