@@ -49,6 +49,11 @@ static void show(const char *name, const struct request *request, const struct a
 }
 
 int main(void) {
+    if (guineacrumb_version() != GUINEACRUMB_VERSION) {
+        fputs("velocity: the header is of another version than the library\n", stderr);
+        return 2;
+    }
+
     float root = guineacrumb_root(2.0f);
     uint32_t word;
     memcpy(&word, &root, sizeof word);

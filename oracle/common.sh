@@ -1,7 +1,14 @@
-# What run, ticks, tenticks, spacing, flights, bench and sample share. They source it with the repository as the working directory.
+# What the scripts of oracle/ and examples/run share. Each sources it, has `take` look at its arguments, and then makes the
+# repository its working directory.
+#
+# They need, by the names of Debian's packages, gcc, cargo 1.84 or newer (rustup has one where the package's is older), and
+# where the machine is no x86-64 gcc-x86-64-linux-gnu, libc6-dev-amd64-cross and qemu-user.
 # shellcheck shell=bash
 
 built=target/oracle
+# The file to link, the command that compiles a program in C for it, and the one that runs such a program; build_library
+# sets them.
+library='' compiler=() emulator=()
 # The command that makes the library's calls; build_server sets it.
 server=()
 # The command that runs a program of ours; build_program sets it.
@@ -9,18 +16,62 @@ program=()
 # The one that makes the fleet table's calls; build_replay sets it.
 replay=()
 
+# stop WHY: ends the script as one that was called wrongly, or lacks something.
+stop() {
+    echo "$0: $1" >&2
+    exit 2
+}
+
+# take LEAST NAMES WORD ..: looks at a script's arguments, before minutes of proving go by. NAMES has the names of what it
+# takes, of which LEAST have to be there. A FILE, FOLDER, PART or TARGET is the script's to look at; any other is a whole
+# number. `--help` prints the comment at the script's head.
+take() {
+    local least=$1 names name
+    read -ra names <<<"$2"
+    shift 2
+    if [ "${1:-}" = --help ]; then
+        sed -n '2,${/^#/!q; s/^# \{0,1\}//p}' "$0"
+        exit 0
+    fi
+    [ $# -ge "$least" ] || stop "there is no ${names[$#]}; --help says what it takes"
+    [ $# -le ${#names[@]} ] || stop "there are $# arguments, and it takes ${#names[@]}; --help says which"
+    for name in "${names[@]:0:$#}"; do
+        case $name in
+        FILE | FOLDER | PART | TARGET) ;;
+        *) [[ $1 =~ ^[0-9]{1,18}$ ]] || stop "$name is '$1', which is no whole number below 10^18; --help says what it takes" ;;
+        esac
+        shift
+    done
+}
+
 # need COMMAND PACKAGE: stops where COMMAND is missing, and names the package that has it.
 need() {
-    command -v "$1" >/dev/null && return
-    echo "oracle: there is no $1 here. The package $2 of Debian and Ubuntu has it." >&2
-    exit 2
+    command -v "$1" >/dev/null || stop "there is no $1 here. The package $2 of Debian and Ubuntu has it."
 }
 
 # need_rt WHAT: stops where there is no toolchain to build WHAT.
 need_rt() {
-    command -v rt >/dev/null && return
-    echo "oracle: there is no rt here, the command of the Rattle toolchain, to prove and build $1." >&2
-    exit 2
+    command -v rt >/dev/null || stop "there is no rt here, the command of the Rattle toolchain, to prove and build $1."
+}
+
+# Stops where there is no cargo, or one that is too old for the lock files and for what the programs are written in.
+need_cargo() {
+    local version
+    need cargo cargo
+    version=$(cargo --version)
+    [[ $version =~ ([0-9]+)\.([0-9]+) ]] || stop "cargo --version says '$version'"
+    ((BASH_REMATCH[1] > 1 || BASH_REMATCH[2] >= 84)) || stop "this is $version, and 1.84 is the oldest that will do; rustup has a newer one."
+}
+
+# quietly LOG COMMAND ..: what the command says is shown where it fails.
+quietly() {
+    local log=$1
+    shift
+    mkdir -p "$(dirname "$log")"
+    "$@" >"$log" 2>&1 || {
+        cat "$log" >&2
+        exit 1
+    }
 }
 
 # changed FILE FROM: makes FILE what FROM is; a FILE that is so already keeps its time, so that nothing is
@@ -35,15 +86,13 @@ lay_out_published() {
     local from=${DODGY_SRC:-../shared/docs/src} to=$built/dodgy_3d file
     local src=$from/crates/dodgy_3d/src
     if [ ! -d "$src" ]; then
-        echo "oracle: the published files of dodgy_3d are not in $src, and this repository has no copy." >&2
+        echo "$0: the published files of dodgy_3d are not in $src, and this repository has no copy." >&2
         echo "Set DODGY_SRC to a checkout of andriyDev/dodgy at commit ca08530013, the folder that has" >&2
         echo "crates/dodgy_3d/src in it." >&2
         exit 2
     fi
-    if ! (cd "$src" && sha256sum --check --quiet -) <oracle/dodgy_3d/published.sha256 >&2; then
-        echo "oracle: the files in $src are not those of commit ca08530013." >&2
-        exit 2
-    fi
+    (cd "$src" && sha256sum --check --quiet -) <oracle/dodgy_3d/published.sha256 >&2 ||
+        stop "the files in $src are not those of commit ca08530013."
     mkdir -p "$to/src"
     for file in lib linear_programming simulator; do
         changed "$to/src/$file.rs" "$src/$file.rs"
@@ -56,36 +105,41 @@ lay_out_published() {
 
 # Builds the programs of oracle/Cargo.toml, offline.
 build_programs() {
-    need cargo cargo
+    need_cargo
     lay_out_published
     cargo build --quiet --release --offline --locked --manifest-path oracle/Cargo.toml --target-dir "$built/cargo"
 }
 
-# Builds the server over the static library. The library is x86-64 code: a machine of another kind needs a
-# cross compiler and an emulator. GUINEACRUMB_NATIVE may name an object or an archive with the library's
-# functions that was compiled for this very machine; it is then linked instead, and nothing is emulated.
-build_server() {
-    local compiler=cc linked='' library=${GUINEACRUMB_NATIVE:-target/staticlib/libguineacrumb.a}
-    server=("$built/velocity_server")
+# Proves and builds the static library. It is x86-64 code: a machine of another kind needs a cross compiler and an emulator.
+# GUINEACRUMB_NATIVE may name an object or an archive with the library's functions that was compiled for this very machine,
+# as oracle/native does; it is then linked instead, and nothing is emulated.
+build_library() {
+    library=${GUINEACRUMB_NATIVE:-target/staticlib/libguineacrumb.a}
     if [ -n "${GUINEACRUMB_NATIVE:-}" ] || [ "$(uname -m)" = x86_64 ]; then
+        compiler=(cc) emulator=()
         need cc gcc
     else
-        compiler=x86_64-linux-gnu-gcc
-        # so that the emulator needs no library of the other machine's
-        linked=-static
-        server=(qemu-x86_64 "${server[@]}")
-        need "$compiler" gcc-x86-64-linux-gnu
+        # static, so that the emulator needs no library of the other machine's
+        compiler=(x86_64-linux-gnu-gcc -static) emulator=(qemu-x86_64)
+        need x86_64-linux-gnu-gcc gcc-x86-64-linux-gnu
         need qemu-x86_64 qemu-user
     fi
+    compiler+=(-std=c11 -O2 -Wall -Wextra)
     mkdir -p "$built"
-    if [ -z "${GUINEACRUMB_NATIVE:-}" ]; then
+    if [ -n "${GUINEACRUMB_NATIVE:-}" ]; then
+        [ -f "$library" ] || stop "GUINEACRUMB_NATIVE is $library, and there is no such file."
+    else
         need_rt "the library"
-        rt staticlib guineacrumb >"$built/staticlib.log" 2>&1 || {
-            cat "$built/staticlib.log" >&2
-            exit 1
-        }
+        quietly "$built/staticlib.log" rt staticlib guineacrumb
     fi
-    "$compiler" $linked -std=c11 -O2 -Wall -Wextra -Iinclude -o "$built/velocity_server" oracle/velocity_server.c "$library"
+}
+
+# Builds the server over the static library.
+build_server() {
+    build_library
+    "${compiler[@]}" -Iinclude -o "$built/velocity_server" oracle/velocity_server.c "$library"
+    # shellcheck disable=SC2034 # run and bench use it
+    server=("${emulator[@]}" "$built/velocity_server")
 }
 
 # is_x86_64 FILE: whether the file is a program for x86-64, as its ELF header says.
@@ -102,20 +156,16 @@ is_x86_64() {
 # emulator, which finds the library where it stands for programs of the other machine; so does a file named by the
 # variable that is x86-64 code. One that is not, as it was compiled for this very machine, runs as it is.
 build_program() {
-    local name=$1 variable=GUINEACRUMB_${1^^} file emulator=()
+    local name=$1 variable=GUINEACRUMB_${1^^} file under=()
     file=${!variable:-target/bin/$name}
     if [ "$(uname -m)" != x86_64 ] && { [ -z "${!variable:-}" ] || is_x86_64 "$file"; }; then
         need qemu-x86_64 qemu-user
-        emulator=(qemu-x86_64 -L "${QEMU_LD_PREFIX:-/usr/x86_64-linux-gnu}")
+        under=(qemu-x86_64 -L "${QEMU_LD_PREFIX:-/usr/x86_64-linux-gnu}")
     fi
-    program=("${emulator[@]}" "$file")
+    program=("${under[@]}" "$file")
     [ -z "${!variable:-}" ] || return 0
     need_rt "the program $name"
-    mkdir -p "$built"
-    rt check "$name" >"$built/$name.log" 2>&1 || {
-        cat "$built/$name.log" >&2
-        exit 1
-    }
+    quietly "$built/$name.log" rt check "$name"
 }
 
 build_replay() {
@@ -127,5 +177,5 @@ build_replay() {
 # say_emulated WHO COMMAND ..: says so where the command is run by an emulator.
 say_emulated() {
     [ $# -gt 2 ] || return 0
-    echo "$1 ran under an emulator: its times, and the ratios, say nothing about the hardware."
+    echo "$1 runs under an emulator: its times, and the ratios, say nothing about the hardware."
 }

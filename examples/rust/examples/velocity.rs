@@ -2,7 +2,7 @@
 //! refusals. A refusal can be displayed too: it then says why, and what to do about it.
 //! examples/run builds it and compares what it prints with examples/stdout.
 use guineacrumb::{
-    root, scratch_length, velocity, Agent, Refusal, Request, Velocity, MOST_NEIGHBOURS,
+    root, scratch_length, velocity, version, Agent, Refusal, Request, Velocity, MOST_NEIGHBOURS,
 };
 
 /// One more than a call takes.
@@ -33,6 +33,13 @@ fn show(name: &str, request: &Request, neighbours: &[Agent]) {
 }
 
 fn main() {
+    let [_, major, minor, patch] = version().to_be_bytes();
+    assert_eq!(
+        format!("{major}.{minor}.{patch}"),
+        env!("CARGO_PKG_VERSION"),
+        "the crate is of another version than the library"
+    );
+
     println!("the root of 2: {:08x}", root(2.0).to_bits());
 
     let still = Agent {

@@ -4,6 +4,8 @@ use std::error::Error;
 use std::fmt;
 
 extern "C" {
+    fn guineacrumb_version() -> u32;
+
     fn guineacrumb_root(x: f32) -> f32;
 
     fn guineacrumb_velocity(
@@ -19,10 +21,22 @@ extern "C" {
         relaxed: *mut u64,
         unseen: *mut u64,
     ) -> u32;
+
+    fn guineacrumb_tick(
+        file: *mut u8,
+        length: usize,
+        time_step: f32,
+        rule: u32,
+        place: *mut u64,
+    ) -> u32;
 }
 
 /// At most so many neighbours.
 pub const MOST_NEIGHBOURS: usize = 63;
+
+/// The bytes of a record of a fleet file, and at most so many records.
+pub const RECORD_BYTES: usize = 76;
+pub const MOST_AGENTS: usize = 64;
 
 /// The numbers of an agent.
 const AGENT_LENGTH: usize = 8;
@@ -98,6 +112,17 @@ pub struct Velocity {
     pub unseen: Option<usize>,
 }
 
+/// Whom an agent avoids in a tick. A hangar wants the near rule.
+#[derive(Clone, Copy, PartialEq, Debug)]
+pub enum Rule {
+    /// NOT TO FLY BY. As in dodgy_3d, an agent avoids those that are FAR, farther away than own maximum speed * own
+    /// horizon + 2 * own radius, and SKIPS THOSE THAT ARE NEAR: it flies into them.
+    Source = 0,
+    /// An agent avoids those no farther away than (own maximum speed + the other's) * own horizon + own radius + the
+    /// other's radius: all who can touch it within its horizon.
+    Near = 1,
+}
+
 /// A refusal: its number, and the place that it is about. Displayed, it says why, and what to do about it.
 #[derive(Clone, Copy, PartialEq, Debug)]
 pub struct Refusal {
@@ -118,12 +143,22 @@ impl fmt::Display for Refusal {
             6 => write!(f, "the plane of neighbour {place} is not finite; leave the neighbour out"),
             18 => write!(f, "a bad pair of bounds on plane {place}; look at that neighbour and the maximum speed"),
             7 => write!(f, "the velocity is not finite; look for numbers of very different sizes"),
+            13 => write!(f, "agent {place} would come to a position that is not finite; bring it back first"),
+            14 => write!(f, "{place} bytes are no fleet file; lend records of {RECORD_BYTES}, at most {MOST_AGENTS}"),
+            15 => write!(f, "a margin is not 0 or 1, or is 0 with a distance; mend the word at the place"),
             _ => write!(f, "not a number of this library's"),
         }
     }
 }
 
 impl Error for Refusal {}
+
+/// The version of the library, a byte each for its three numbers: 0x000100 is 0.1.0, and so is this crate's where
+/// the two belong together.
+pub fn version() -> u32 {
+    // SAFETY: the function gives a number, and touches no memory.
+    unsafe { guineacrumb_version() }
+}
 
 /// The nearest f32 to the square root of x.
 pub fn root(x: f32) -> f32 {
@@ -173,4 +208,25 @@ pub fn velocity(
         relaxed: index(relaxed),
         unseen: index(unseen),
     })
+}
+
+/// One tick of a fleet file, in place: it is loaded, every agent is planned, and the fleet after the tick stands in it.
+/// A tick that is refused leaves every byte as it was; the place of 3, 4, 5 and 15 is 19 * record + word, but for a
+/// time step, 12, and a plan, 8 to 10. It does not say who is unseen, which means NOT AVOIDED: `velocity` does.
+pub fn tick(file: &mut [u8], time_step: f32, rule: Rule) -> Result<(), Refusal> {
+    let mut place = 0;
+    // SAFETY: the file's pointer comes with its length, and place is this function's own. References are never null.
+    let number = unsafe {
+        guineacrumb_tick(
+            file.as_mut_ptr(),
+            file.len(),
+            time_step,
+            rule as u32,
+            &mut place,
+        )
+    };
+    if number != 0 {
+        return Err(Refusal { number, place });
+    }
+    Ok(())
 }
