@@ -5,3 +5,5 @@ pub mod LentPlanes
 pub mod LeftOver
 pub mod InTurn
 pub mod NoBadClamp
+pub mod Why
+pub mod Examples

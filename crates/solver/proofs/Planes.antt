@@ -12,6 +12,7 @@ use lib.Ieee.{Float, nan}
 use Rattle.solver.specs.declared.Plane.{Plane}
 use Rattle.solver.specs.Plane.{inTurn}
 use Rattle.solver.specs.Lent.{planeAt, planesOf, planesIn}
+use Rattle.solver.proofs.InTurn.{stays}
 
 -- of the first n planes, those from index i on
 abbrev pub rest : ℕ → ℕ → List Float → List Plane
@@ -113,41 +114,35 @@ planes-last (suc i) (suc n) xs =
 abbrev pub remaining : {State : Type 0} → (List Plane → Plane → State → State) → ℕ → ℕ → List Float → State → State
 remaining step n i xs state = inTurn step (planesOf i xs) (rest n i xs) state
 
-module _ {State : Type 0} (step : List Plane → Plane → State → State) where
-  stays : (state : State) → ((passed : List Plane) (constraint : Plane) → step passed constraint state ≡ state) → (passed constraints : List Plane) → inTurn step passed constraints state ≡ state
+module _ {State : Type 0} (step : List Plane → Plane → State → State) (n : ℕ) (xs : List Float) where
+  pub begin : (state : State) → remaining step n 0 xs state ≡ inTurn step [] (planesOf n xs) state
+  unfolding planesOf
+  begin state = rw (rest-all n xs)
+
+  one : (i : ℕ) (state : State) → i < n → remaining step n i xs state ≡ remaining step n (i + 1) xs (step (planesOf i xs) (planeAt (drop (6 * i) xs)) state)
   unfolding inTurn
-  stays state kept passed [] = refl
-  stays state kept passed (constraint ∷ constraints) = rw (kept passed constraint) (stays state kept (passed ++ constraint ∷ []) constraints)
+  one i state h = rw (rest-step n i xs h, passed-step i xs)
 
-  module _ (n : ℕ) (xs : List Float) where
-    pub begin : (state : State) → remaining step n 0 xs state ≡ inTurn step [] (planesOf n xs) state
-    unfolding planesOf
-    begin state = rw (rest-all n xs)
+  -- a loop that starts at an index has passed the planes before it
+  pub begin-at : (i : ℕ) (state : State) → remaining step n i xs state ≡ inTurn step (take i (planesOf n xs)) (drop i (planesOf n xs)) state
+  unfolding inTurn
+  begin-at i state = go (leb i n) (leb→le i n) (nleb→lt i n)
+    where
+      go : (b : Bool) → (T b → i ≤ n) → (T (not b) → n < i) → remaining step n i xs state ≡ inTurn step (take i (planesOf n xs)) (drop i (planesOf n xs)) state
+      go true below above = rw (planes-first i n xs (below tt), planes-last i n xs)
+      go false below above = rw (planes-last i n xs, rest-none n i xs (le-of-lt (above tt)))
 
-    one : (i : ℕ) (state : State) → i < n → remaining step n i xs state ≡ remaining step n (i + 1) xs (step (planesOf i xs) (planeAt (drop (6 * i) xs)) state)
-    unfolding inTurn
-    one i state h = rw (rest-step n i xs h, passed-step i xs)
+  -- a turn takes one constraint off what is left, and the answer stays the same
+  pub turn : (i : ℕ) (state next answer : State) → i < n → next ≡ step (planesOf i xs) (planeAt (drop (6 * i) xs)) state
+      → remaining step n i xs state ≡ answer → remaining step n (i + 1) xs next ≡ answer
+  turn i state next answer h is inv = rw is (sym (one i state h) ∙ inv)
 
-    -- a loop that starts at an index has passed the planes before it
-    pub begin-at : (i : ℕ) (state : State) → remaining step n i xs state ≡ inTurn step (take i (planesOf n xs)) (drop i (planesOf n xs)) state
-    unfolding inTurn
-    begin-at i state = go (leb i n) (leb→le i n) (nleb→lt i n)
-      where
-        go : (b : Bool) → (T b → i ≤ n) → (T (not b) → n < i) → remaining step n i xs state ≡ inTurn step (take i (planesOf n xs)) (drop i (planesOf n xs)) state
-        go true below above = rw (planes-first i n xs (below tt), planes-last i n xs)
-        go false below above = rw (planes-last i n xs, rest-none n i xs (le-of-lt (above tt)))
+  -- a state that every constraint keeps is the answer
+  pub leave : (i : ℕ) (state answer : State) → ((passed : List Plane) (constraint : Plane) → step passed constraint state ≡ state)
+      → remaining step n i xs state ≡ answer → state ≡ answer
+  leave i state answer kept inv = sym (stays step state kept (planesOf i xs) (rest n i xs)) ∙ inv
 
-    -- a turn takes one constraint off what is left, and the answer stays the same
-    pub turn : (i : ℕ) (state next answer : State) → i < n → next ≡ step (planesOf i xs) (planeAt (drop (6 * i) xs)) state
-        → remaining step n i xs state ≡ answer → remaining step n (i + 1) xs next ≡ answer
-    turn i state next answer h is inv = rw is (sym (one i state h) ∙ inv)
-
-    -- a state that every constraint keeps is the answer
-    pub leave : (i : ℕ) (state answer : State) → ((passed : List Plane) (constraint : Plane) → step passed constraint state ≡ state)
-        → remaining step n i xs state ≡ answer → state ≡ answer
-    leave i state answer kept inv = sym (stays state kept (planesOf i xs) (rest n i xs)) ∙ inv
-
-    -- and so is the state after the last one
-    pub end : (i : ℕ) (state answer : State) → n ≤ i → remaining step n i xs state ≡ answer → state ≡ answer
-    unfolding inTurn
-    end i state answer h inv = rw (rest-none n i xs h) at inv
+  -- and so is the state after the last one
+  pub end : (i : ℕ) (state answer : State) → n ≤ i → remaining step n i xs state ≡ answer → state ≡ answer
+  unfolding inTurn
+  end i state answer h inv = rw (rest-none n i xs h) at inv
