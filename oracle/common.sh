@@ -2,13 +2,14 @@
 # repository its working directory.
 #
 # They need, by the names of Debian's packages, gcc, cargo 1.84 or newer (rustup has one where the package's is older), and
-# where the machine is no x86-64 gcc-x86-64-linux-gnu, libc6-dev-amd64-cross and qemu-user.
+# where the machine is no x86-64 gcc-x86-64-linux-gnu, libc6-dev-amd64-cross and qemu-user; oracle/root also python3, 3.9 or
+# newer.
 # shellcheck shell=bash
 
 built=target/oracle
-# The file to link, the command that compiles a program in C for it, and the one that runs such a program; build_library
-# sets them.
-library='' compiler=() emulator=()
+# The file to link, the command that compiles a program in C for it, the one that runs such a program, and the one that
+# lists the file's code; build_library sets them, and choose_commands all but the first.
+library='' compiler=() emulator=() objdump=''
 # The command that makes the library's calls; build_server sets it.
 server=()
 # The command that runs a program of ours; build_program sets it.
@@ -110,21 +111,28 @@ build_programs() {
     cargo build --quiet --release --offline --locked --manifest-path oracle/Cargo.toml --target-dir "$built/cargo"
 }
 
-# Proves and builds the static library. It is x86-64 code: a machine of another kind needs a cross compiler and an emulator.
-# GUINEACRUMB_NATIVE may name an object or an archive with the library's functions that was compiled for this very machine,
-# as oracle/native does; it is then linked instead, and nothing is emulated.
-build_library() {
-    library=${GUINEACRUMB_NATIVE:-target/staticlib/libguineacrumb.a}
+# Sets the commands for the machine that the library's code is for, and stops where there is none of them. It is x86-64 code:
+# a machine of another kind needs a cross compiler and an emulator.
+choose_commands() {
     if [ -n "${GUINEACRUMB_NATIVE:-}" ] || [ "$(uname -m)" = x86_64 ]; then
-        compiler=(cc) emulator=()
+        compiler=(cc) emulator=() objdump=objdump
         need cc gcc
     else
         # static, so that the emulator needs no library of the other machine's
         compiler=(x86_64-linux-gnu-gcc -static) emulator=(qemu-x86_64)
+        # shellcheck disable=SC2034 # root uses it
+        objdump=x86_64-linux-gnu-objdump
         need x86_64-linux-gnu-gcc gcc-x86-64-linux-gnu
         need qemu-x86_64 qemu-user
     fi
     compiler+=(-std=c11 -O2 -Wall -Wextra)
+}
+
+# Proves and builds the static library. GUINEACRUMB_NATIVE may name an object or an archive with the library's functions that
+# was compiled for this very machine, as oracle/native does; it is then linked instead, and nothing is emulated.
+build_library() {
+    library=${GUINEACRUMB_NATIVE:-target/staticlib/libguineacrumb.a}
+    choose_commands
     mkdir -p "$built"
     if [ -n "${GUINEACRUMB_NATIVE:-}" ]; then
         [ -f "$library" ] || stop "GUINEACRUMB_NATIVE is $library, and there is no such file."

@@ -7,7 +7,8 @@
  * a STEP of 1, shared out to PROCESSES processes. A NaN agrees with a NaN; all else agrees by its bits.
  * The exit status is 0 only where all agree.
  *
- * The times are of calls that don't wait for each other, over positive normal numbers in random order.
+ * The times are over positive normal numbers in random order: of calls that don't wait for each other, and of a
+ * chain of calls, each of which waits for the one before.
  */
 #define _DEFAULT_SOURCE
 #include <inttypes.h>
@@ -128,7 +129,7 @@ static double now(void) {
 static volatile uint32_t sink;
 
 /* Nanoseconds for a call. */
-static double time_of(float (*function)(float), const float *numbers) {
+static double time_apart(float (*function)(float), const float *numbers) {
     uint32_t mixed = 0;
     double start = now();
     for (int pass = 0; pass < PASSES; pass++)
@@ -136,6 +137,19 @@ static double time_of(float (*function)(float), const float *numbers) {
             mixed ^= to_word(function(numbers[i]));
     double end = now();
     sink = mixed;
+    return (end - start) / ((double)PASSES * NUMBERS);
+}
+
+/* The same where each call waits for the one before: the last digit of a result changes that of the next argument,
+ * which stays a positive normal number. The few instructions that this takes are timed with the call. */
+static double time_chained(float (*function)(float), const float *numbers) {
+    uint32_t last = 0;
+    double start = now();
+    for (int pass = 0; pass < PASSES; pass++)
+        for (int i = 0; i < NUMBERS; i++)
+            last = to_word(function(of_word(to_word(numbers[i]) ^ (last & 1))));
+    double end = now();
+    sink = last;
     return (end - start) / ((double)PASSES * NUMBERS);
 }
 
@@ -154,15 +168,25 @@ static void time_both(void) {
     const uint32_t least = 0x00800000, infinity = 0x7F800000;
     for (int i = 0; i < NUMBERS; i++)
         numbers[i] = of_word(least + random_word() % (infinity - least));
-    double ours[REPETITIONS], machine[REPETITIONS], ratio[REPETITIONS];
-    for (int i = 0; i < REPETITIONS; i++) {
-        ours[i] = time_of(guineacrumb_root, numbers);
-        machine[i] = time_of(machine_root, numbers);
-        ratio[i] = ours[i] / machine[i];
-    }
-    printf("guineacrumb_root %.2f ns a call, the instruction %.2f ns, ratio %.2f\n", median(ours),
-           median(machine), median(ratio));
-    printf("(medians of %d repetitions, each of %d passes over %d normal numbers in random order)\n",
+    static const struct {
+        const char *name;
+        double (*time)(float (*function)(float), const float *numbers);
+    } ways[] = {
+        {"calls that don't wait for each other", time_apart},
+        {"a chain of calls, each waiting for the one before", time_chained},
+    };
+    enum { WAYS = sizeof ways / sizeof *ways };
+    double ours[WAYS][REPETITIONS], machine[WAYS][REPETITIONS], ratio[WAYS][REPETITIONS];
+    for (int i = 0; i < REPETITIONS; i++)
+        for (int way = 0; way < WAYS; way++) {
+            ours[way][i] = ways[way].time(guineacrumb_root, numbers);
+            machine[way][i] = ways[way].time(machine_root, numbers);
+            ratio[way][i] = ours[way][i] / machine[way][i];
+        }
+    for (int way = 0; way < WAYS; way++)
+        printf("%s:\n    guineacrumb_root %.2f ns a call, the instruction %.2f ns, ratio %.2f\n", ways[way].name,
+               median(ours[way]), median(machine[way]), median(ratio[way]));
+    printf("(medians of %d repetitions, in turns, each of %d passes over %d normal numbers in random order)\n",
            REPETITIONS, PASSES, NUMBERS);
 }
 
