@@ -102,6 +102,32 @@ lay_out_published() {
     for file in README.md src/lib_test.rs src/simulator_test.rs; do
         changed "$to/$file" /dev/null
     done
+    lay_out_digits
+}
+
+# with_digits FROM TO COUNT: makes TO what FROM is, but with its square roots, which are COUNT, taken by oracle/digits.
+with_digits() {
+    local from=$1 to=$2 count=$3 new=$2.new found
+    found=$(grep -o sqrt "$from" | wc -l) || true
+    # The trait is named at the end, since a file may begin with attributes of the whole of it.
+    { sed 's/\.sqrt()/.digits()/g' "$from" && echo 'use digits::Digits as _;'; } >"$new"
+    if [ "$found" != "$count" ] || grep -q sqrt "$new"; then
+        stop "$from is to have $count calls of .sqrt(), and no other sqrt: it has $found in all."
+    fi
+    changed "$to" "$new"
+    rm "$new"
+}
+
+# Lays the published files out once more, and the stand-in for glam, where oracle/dodgy_3d_digits and oracle/glam_digits have
+# them: the same but for the square roots.
+lay_out_digits() {
+    local from=$built/dodgy_3d to=$built/dodgy_3d_digits glam=$built/glam_digits
+    mkdir -p "$to/src" "$glam/src"
+    with_digits "$from/src/lib.rs" "$to/src/lib.rs" 2
+    with_digits "$from/src/linear_programming.rs" "$to/src/linear_programming.rs" 3
+    with_digits oracle/glam/src/lib.rs "$glam/src/lib.rs" 1
+    changed "$to/src/simulator.rs" "$from/src/simulator.rs"
+    changed "$to/README.md" /dev/null
 }
 
 # Builds the programs of oracle/Cargo.toml, offline.

@@ -3,8 +3,9 @@ use std::borrow::Cow;
 use std::cell::{Cell, RefCell};
 use std::panic::{catch_unwind, set_hook, take_hook, AssertUnwindSafe};
 
-use dodgy_3d::{Agent, AvoidanceOptions, Plane, Vec3};
+use dodgy_3d::{Agent, Plane, Vec3};
 
+use crate::call::call_of;
 use crate::case::*;
 
 pub enum Expected {
@@ -48,58 +49,9 @@ pub fn caught<T>(f: impl FnOnce() -> T) -> Result<T, String> {
     result.map_err(|_| MESSAGE.take())
 }
 
-pub fn vector(numbers: &[f32]) -> Vec3 {
-    Vec3::new(numbers[0], numbers[1], numbers[2])
-}
-
-pub fn agent(numbers: &[f32]) -> Agent {
-    Agent {
-        position: vector(&numbers[0..3]),
-        velocity: vector(&numbers[3..6]),
-        radius: numbers[RADIUS],
-        avoidance_responsibility: numbers[RESPONSIBILITY],
-    }
-}
-
-/// A call of the published function, made ready.
-pub struct Call {
-    agent: Agent,
-    neighbours: Vec<Agent>,
-    preferred: Vec3,
-    max_speed: f32,
-    time_step: f32,
-    options: AvoidanceOptions,
-}
+call_of!(dodgy_3d);
 
 impl Call {
-    pub fn of(case: &Case) -> Call {
-        Call {
-            agent: agent(&case.request),
-            neighbours: case.neighbours.chunks_exact(AGENT).map(agent).collect(),
-            preferred: vector(&case.vector(PREFERRED)),
-            max_speed: case.request[MAX_SPEED],
-            time_step: case.request[TIME_STEP],
-            options: AvoidanceOptions {
-                time_horizon: case.request[HORIZON],
-            },
-        }
-    }
-
-    /// The neighbours in the form that the published function takes.
-    pub fn borrowed(&self) -> Vec<Cow<'_, Agent>> {
-        self.neighbours.iter().map(Cow::Borrowed).collect()
-    }
-
-    pub fn velocity(&self, neighbours: &[Cow<'_, Agent>]) -> Vec3 {
-        self.agent.compute_avoiding_velocity(
-            neighbours,
-            self.preferred,
-            self.max_speed,
-            self.time_step,
-            &self.options,
-        )
-    }
-
     fn with_planes(&self, neighbours: &[Cow<'_, Agent>]) -> (Vec3, Vec<Plane>) {
         self.agent.compute_avoiding_velocity_with_debug(
             neighbours,

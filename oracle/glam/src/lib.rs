@@ -2,6 +2,9 @@
 //! use, and no others. The products, lengths and normalizations are document 01's lines (module 1), one
 //! rounding for each operation and none fused; the rest is how the operators read. docs/DIFFERENCES.md
 //! lists them: what is compared by means of this crate says nothing about glam itself.
+//!
+//! All are marked `#[inline]`: unmarked, a function is inlined in another crate only where it calls nothing, so that the
+//! copy whose root is a call (../../common.sh, `with_digits`) would be timed with calls that this one has not.
 use std::ops::{Add, AddAssign, Div, Mul, Sub};
 
 #[derive(Clone, Copy, PartialEq, Debug)]
@@ -18,10 +21,12 @@ impl Vec3 {
         Vec3 { x, y, z }
     }
 
+    #[inline]
     pub fn dot(self, other: Vec3) -> f32 {
         (self.x * other.x + self.y * other.y) + self.z * other.z
     }
 
+    #[inline]
     pub fn cross(self, other: Vec3) -> Vec3 {
         Vec3::new(
             self.y * other.z - other.y * self.z,
@@ -30,22 +35,27 @@ impl Vec3 {
         )
     }
 
+    #[inline]
     pub fn length_squared(self) -> f32 {
         self.dot(self)
     }
 
+    #[inline]
     pub fn length(self) -> f32 {
         self.dot(self).sqrt()
     }
 
+    #[inline]
     pub fn length_recip(self) -> f32 {
         1.0 / self.length()
     }
 
+    #[inline]
     pub fn normalize(self) -> Vec3 {
         self * self.length_recip()
     }
 
+    #[inline]
     pub fn normalize_or_zero(self) -> Vec3 {
         let reciprocal = self.length_recip();
         if reciprocal.is_finite() && reciprocal > 0.0 {
@@ -55,6 +65,7 @@ impl Vec3 {
         }
     }
 
+    #[inline]
     pub fn distance_squared(self, other: Vec3) -> f32 {
         (self - other).length_squared()
     }
@@ -63,12 +74,14 @@ impl Vec3 {
 impl Add for Vec3 {
     type Output = Vec3;
 
+    #[inline]
     fn add(self, other: Vec3) -> Vec3 {
         Vec3::new(self.x + other.x, self.y + other.y, self.z + other.z)
     }
 }
 
 impl AddAssign for Vec3 {
+    #[inline]
     fn add_assign(&mut self, other: Vec3) {
         *self = *self + other;
     }
@@ -77,6 +90,7 @@ impl AddAssign for Vec3 {
 impl Sub for Vec3 {
     type Output = Vec3;
 
+    #[inline]
     fn sub(self, other: Vec3) -> Vec3 {
         Vec3::new(self.x - other.x, self.y - other.y, self.z - other.z)
     }
@@ -85,6 +99,7 @@ impl Sub for Vec3 {
 impl Mul<f32> for Vec3 {
     type Output = Vec3;
 
+    #[inline]
     fn mul(self, scale: f32) -> Vec3 {
         Vec3::new(self.x * scale, self.y * scale, self.z * scale)
     }
@@ -93,6 +108,7 @@ impl Mul<f32> for Vec3 {
 impl Mul<Vec3> for f32 {
     type Output = Vec3;
 
+    #[inline]
     fn mul(self, vector: Vec3) -> Vec3 {
         Vec3::new(self * vector.x, self * vector.y, self * vector.z)
     }
@@ -101,6 +117,7 @@ impl Mul<Vec3> for f32 {
 impl Div<f32> for Vec3 {
     type Output = Vec3;
 
+    #[inline]
     fn div(self, divisor: f32) -> Vec3 {
         Vec3::new(self.x / divisor, self.y / divisor, self.z / divisor)
     }

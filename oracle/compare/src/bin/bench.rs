@@ -1,21 +1,21 @@
-//! Times Guineacrumb's velocity call and the published one on the same inputs.
+//! Times Guineacrumb's velocity call, the published one, and the published one with its square roots taken digit by digit,
+//! on the same inputs.
 //!
 //!     bench SEED COMMAND ..
 //!
 //! COMMAND is the server, which times the library's calls in its own process; the Rust's are timed here,
-//! in turns with them. Neither side is given anything to clear: the library's calls share one scratch,
+//! in turns with them. No side is given anything to clear: the library's calls share one scratch,
 //! which holds what the call before left, and the Rust allocates what it needs.
-use std::borrow::Cow;
-use std::hint::black_box;
+//!
+//! It panics where the roots taken digit by digit are not those of `sqrt`, or lead to other answers.
 use std::process::ExitCode;
-use std::time::Instant;
 use std::{env, io};
 
 use compare::case::*;
 use compare::inputs::{draw_of, Kind};
-use compare::published::{catch_quietly, expected, Call, Expected};
+use compare::published::{catch_quietly, expected, Expected};
 use compare::server::Server;
-use dodgy_3d::Agent;
+use compare::{by_digits, published};
 
 const COUNTS: [usize; 5] = [1, 8, 16, 32, 63];
 /// The different inputs of a line.
@@ -24,6 +24,8 @@ const INPUTS: usize = 64;
 const ROUNDS: usize = 9;
 /// How long a timing takes, at least, in nanoseconds.
 const LONG_ENOUGH: u64 = 20_000_000;
+/// Of so many patterns one has its root compared.
+const STEP: usize = 4099;
 
 #[derive(Clone, Copy, PartialEq, Debug)]
 enum Setting {
@@ -51,57 +53,53 @@ fn inputs(seed: u64, setting: Setting, count: usize) -> Vec<Case> {
     cases.filter(fits).take(INPUTS).collect()
 }
 
-/// Nanoseconds for so many passes over the calls.
-fn time_published(calls: &[(&Call, Vec<Cow<'_, Agent>>)], passes: u32) -> u64 {
-    let start = Instant::now();
-    for _ in 0..passes {
-        for (call, neighbours) in calls {
-            black_box(black_box(call).velocity(black_box(neighbours)));
-        }
-    }
-    start.elapsed().as_nanos() as u64
-}
-
 fn median(mut times: Vec<f64>) -> f64 {
     times.sort_by(f64::total_cmp);
     times[times.len() / 2]
 }
 
 fn bench(seed: u64, server: &mut Server) -> io::Result<()> {
+    let different = digits::first_difference(STEP);
+    assert_eq!(different, None, "a number with another root than sqrt's");
     println!(
-        "{:>9} {:>3} {:>11} {:>11} {:>6}",
-        "setting", "n", "ours ns", "Rust ns", "ratio"
+        "{:>9} {:>3} {:>11} {:>11} {:>6} {:>11} {:>6}",
+        "setting", "n", "ours ns", "Rust ns", "ratio", "digits ns", "ratio"
     );
     for setting in [Setting::Sparse, Setting::Crowded] {
         for count in COUNTS {
             let cases = inputs(seed, setting, count);
-            let calls: Vec<Call> = cases.iter().map(Call::of).collect();
-            let calls: Vec<_> = calls.iter().map(|call| (call, call.borrowed())).collect();
+            let plain: Vec<_> = cases.iter().map(published::Call::of).collect();
+            let without: Vec<_> = cases.iter().map(by_digits::Call::of).collect();
+            for (one, other) in plain.iter().zip(&without) {
+                assert_eq!(one.answer(), other.answer(), "answers of the two Rusts");
+            }
             let once = server
                 .time(&cases, 1)?
-                .min(time_published(&calls, 1))
+                .min(published::time(&plain, 1))
                 .max(1);
             let passes = (LONG_ENOUGH / once).clamp(1, 100_000) as u32;
-            let (mut ours, mut theirs, mut ratios) = (vec![], vec![], vec![]);
+            let each = f64::from(passes) * cases.len() as f64;
+            let (mut ours, mut rusts, mut digits) = (vec![], vec![], vec![]);
             for _ in 0..ROUNDS {
-                let each = f64::from(passes) * cases.len() as f64;
-                let our = server.time(&cases, passes)? as f64 / each;
-                let their = time_published(&calls, passes) as f64 / each;
-                ours.push(our);
-                theirs.push(their);
-                ratios.push(our / their);
+                ours.push(server.time(&cases, passes)? as f64 / each);
+                rusts.push(published::time(&plain, passes) as f64 / each);
+                digits.push(by_digits::time(&without, passes) as f64 / each);
             }
+            let ratio = |to: &[f64]| median(ours.iter().zip(to).map(|(our, x)| our / x).collect());
             println!(
-                "{:>9} {count:>3} {:>11.1} {:>11.1} {:>6.2}",
+                "{:>9} {count:>3} {:>11.1} {:>11.1} {:>6.2} {:>11.1} {:>6.2}",
                 format!("{setting:?}").to_lowercase(),
-                median(ours),
-                median(theirs),
-                median(ratios)
+                median(ours.clone()),
+                median(rusts.clone()),
+                ratio(&rusts),
+                median(digits.clone()),
+                ratio(&digits),
             );
         }
     }
     println!("(medians of {ROUNDS} timings, in turns, each of many passes over {INPUTS} inputs; ");
-    println!("scratch is not cleared before a call)");
+    println!("scratch is not cleared before a call; digits: the Rust, its square roots taken digit by digit;");
+    println!("each ratio is that of ours to the column before it)");
     Ok(())
 }
 
