@@ -1,5 +1,6 @@
 -- Laws of the square root, beside the proofs of its functions.
 pub mod Whole
+pub mod Digits
 pub mod Binary
 pub mod Nearest
 pub mod Examples

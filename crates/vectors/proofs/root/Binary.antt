@@ -17,7 +17,7 @@ use borrow.Author.Tests.{lt-ltb, le-leb, lt-leb, leb-true, leb-false, ne-eqb}
 use Rattle.vectors.specs.Number.{finite, ofWord, toWord, zero as zero32, one, _⊘_}
 use Rattle.vectors.specs.Root.{root, rootOf, nearestRoot}
 use Rattle.vectors.specs.parts.Root.{Parts}
-use Rattle.vectors.proofs.root.Whole.{nearest-near, near-least, near-most}
+use Rattle.vectors.proofs.root.Whole.{four-pow, nearest-near, near-least, near-most}
 
 -- ---- from the parts of an argument to its root
 
@@ -28,13 +28,8 @@ wholePart q p = q * 2 ^ (24 - p % 2)
 abbrev pub halfPower : ℕ → ℕ
 halfPower p = (p - 23) / 2
 
-four-pow : (k : ℕ) → 4 ^ k ≡ 2 ^ (k + k)
-four-pow zero = refl
-four-pow (suc k) =
-    pow-suc 4 k ∙ ap (λ (x : ℕ). x * 4) (four-pow k) ∙ sym (pow-add 2 (k + k) 2) ∙ ap (λ (x : ℕ). 2 ^ x) (two-more k)
-  where
-    two-more : (k : ℕ) → k + k + 2 ≡ suc k + suc k
-    two-more k = omega arith
+four-squared : (k : ℕ) → 4 ^ k ≡ 2 ^ (k + k)
+four-squared k = four-pow k ∙ sym (pow-add 2 k k)
 
 pub split-power : (q p : ℕ) → 126 ≤ p → q * 2 ^ p ≡ wholePart q p * 4 ^ halfPower p
 split-power q p h =
@@ -42,17 +37,31 @@ split-power q p h =
     ap (λ (x : ℕ). q * 2 ^ x) (sum p h)
     ∙ ap (λ (x : ℕ). q * x) (pow-add 2 (24 - p % 2) (k + k))
     ∙ sym (mul-assoc q (2 ^ (24 - p % 2)) (2 ^ (k + k)))
-    ∙ ap (λ (x : ℕ). wholePart q p * x) (sym (four-pow k))
+    ∙ ap (λ (x : ℕ). wholePart q p * x) (sym (four-squared k))
   where
     sum : (p : ℕ) → 126 ≤ p → p ≡ 24 - p % 2 + ((p - 23) / 2 + (p - 23) / 2)
     sum p h = omega arith
+
+-- the document's a without its last 23 digits, which are zeros
+abbrev pub evenPart : ℕ → ℕ → ℕ
+evenPart q p = q * 2 ^ (1 - p % 2)
+
+pub even-whole : (q p : ℕ) → evenPart q p * 2 ^ 23 ≡ wholePart q p
+even-whole q p =
+    mul-assoc q (2 ^ (1 - p % 2)) (2 ^ 23) ∙ ap (λ (x : ℕ). q * x) (sym (pow-add 2 (1 - p % 2) 23) ∙ ap (λ (x : ℕ). 2 ^ x) (sum p))
+  where
+    sum : (p : ℕ) → 1 - p % 2 + 23 ≡ 24 - p % 2
+    sum p = omega arith
+
+pub even-most : (q p : ℕ) → q < 2 ^ 24 → evenPart q p < 2 ^ 25
+even-most q p hi = lt-of-lt-of-le (shl-lt 24 (1 - p % 2) hi) (pow-mono {i = 24 + (1 - p % 2)} {j = 25} (omega arith))
 
 -- a of 47 or 48 digits is what is left of a * 4 ^ k when all but its 47 or 48 leading digits go
 rootOf-scaled : (a k : ℕ) → 2 ^ 46 ≤ a → a < 2 ^ 48 → rootOf (a * 4 ^ k) ≡ odd 24 false (nearestRoot a) k 149
 unfolding rootOf
 rootOf-scaled a k lo hi =
     let n = a * 4 ^ k in
-    let n-is : n ≡ a * 2 ^ (k + k) = ap (λ (x : ℕ). a * x) (four-pow k) in
+    let n-is : n ≡ a * 2 ^ (k + k) = ap (λ (x : ℕ). a * x) (four-squared k) in
     let most : size n ≤ 48 + (k + k) = size-le n (48 + (k + k)) (subst (λ (x : ℕ). x < 2 ^ (48 + (k + k))) (sym n-is) (shl-lt 48 (k + k) hi)) in
     let reached : 2 ^ (46 + (k + k)) ≤ n = le-trans (le-of-eq (pow-add 2 46 (k + k))) (le-trans (mul-le-mul-right (2 ^ (k + k)) lo) (le-of-eq (sym n-is))) in
     let least : 46 + (k + k) < size n = lt-of-not-le (λ (few : size n ≤ 46 + (k + k)). not-le-of-lt (lt-of-lt-of-le (size-lt n) (pow-mono few)) reached) in

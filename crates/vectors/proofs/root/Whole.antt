@@ -1,14 +1,13 @@
 -- Square roots among the whole numbers: the definition's digit by digit root is the whole part, its nearest one is nearest, and each is the only one.
-use mathlib.Core.Path.{_≡_, sym, ap, _∙_, subst}
+use mathlib.Core.Path.{_≡_, refl, sym, ap, ap₂, _∙_, subst}
 use mathlib.Core.Bool.{Bool, true, false, not, cond}
 use Prim.Native.Nat.{ℕ, zero, suc, _+_, _-_, _*_, _/_, _^_, _≤_, _<_}
-use native.Mathlib.Nat.{le-antisymm, le-of-lt, le-of-suc-le-suc, lt-of-le-of-lt, lt-of-not-le, mul-le-mul, mul-le-mul-left, add-mul, mul-add, mul-assoc, mul-comm, mul-left-comm, pow-suc, zero-lt-suc, div-lt-iff-lt-mul}
+use native.Mathlib.Nat.{le-antisymm, le-of-lt, le-of-suc-le-suc, lt-of-le-of-lt, lt-of-not-le, mul-le-mul, mul-le-mul-left, add-mul, mul-add, mul-assoc, mul-comm, mul-left-comm, mul-mul-mul-comm, pow-suc, zero-lt-suc, div-lt-iff-lt-mul}
 use native.Mathlib.Numerals.{add-one}
 use native.Mathlib.Omega.{arith}
 use lib.Dec.{T, leb, ltb, leb→le, nleb→lt, ltb→lt, nltb→le}
 use lib.Pow.{shl-lt}
 use Rattle.vectors.specs.Root.{floorRoot, nearestRoot}
-use Rattle.vectors.specs.parts.Root.{Near}
 
 -- a number of i digits times one of j digits has at most i + j
 pub mul-lt-pow : {a b : ℕ} (i j : ℕ) → a < 2 ^ i → b < 2 ^ j → a * b < 2 ^ (i + j)
@@ -18,6 +17,15 @@ mul-lt-pow {a} i j ha hb = lt-of-le-of-lt (mul-le-mul-left a (le-of-lt hb)) (shl
 
 pub next-square : (s : ℕ) → (s + 1) * (s + 1) ≡ s * s + s + s + 1
 next-square s = omega (arith, mul-add (s + 1) s 1, add-mul s 1 s)
+
+pub square-sum : (s t : ℕ) → (s + t) * (s + t) ≡ s * s + 2 * (s * t) + t * t
+square-sum s t = omega (arith, mul-add (s + t) s t, add-mul s t s, add-mul s t t, mul-comm t s)
+
+-- the square of 2 ^ k
+pub four-pow : (k : ℕ) → 4 ^ k ≡ 2 ^ k * 2 ^ k
+four-pow zero = refl
+four-pow (suc k) =
+    pow-suc 4 k ∙ ap (λ (x : ℕ). x * 4) (four-pow k) ∙ mul-mul-mul-comm (2 ^ k) (2 ^ k) 2 2 ∙ sym (ap₂ (λ (x y : ℕ). x * y) (pow-suc 2 k) (pow-suc 2 k))
 
 double-square : (s : ℕ) → 2 * s * (2 * s) ≡ 4 * (s * s)
 double-square s = mul-assoc 2 s (2 * s) ∙ ap (λ (x : ℕ). 2 * x) (mul-left-comm s 2 s) ∙ sym (mul-assoc 2 2 (s * s))
@@ -47,6 +55,10 @@ floor-is (suc n) a h =
     (floor-is n (a / 4) (div-lt-iff-lt-mul (zero-lt-suc 3) .1 (subst (λ (x : ℕ). a < x) (pow-suc 4 n) h)))
 
 -- ---- the nearest
+
+-- r is nearest to the root of a: (2 * r - 1) ^ 2 < 4 * a < (2 * r + 1) ^ 2, with the ones cancelled
+abbrev pub Near : ℕ → ℕ → Type 0
+Near a r = (r * r < a + r) × (a ≤ r * r + r)
 
 -- between the whole part and the next number, by which side of the half the root lies on
 pub near-above : (a s : ℕ) → Floor a s → s * s + s < a → Near a (s + 1)

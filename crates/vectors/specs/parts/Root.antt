@@ -1,5 +1,5 @@
 -- What the root's private functions promise each other.
-use Prim.Native.Nat.{ℕ, _+_, _*_, _^_, _≤_, _<_}
+use Prim.Native.Nat.{ℕ, _*_, _^_, _≤_, _<_}
 use mathlib.Core.Bool.{false}
 use lib.Ieee.{Float}
 use lib.Ieee.Exact.{HasValue}
@@ -11,7 +11,3 @@ pub record Parts (x : Float) (q p : ℕ) : Type 0 where
   pub p-least : 126 ≤ p
   pub p-most : p ≤ 402
   pub value : HasValue x false (q * 2 ^ p) (4 ^ 149)
-
--- r is nearest to the root of a: (2 * r - 1) ^ 2 < 4 * a < (2 * r + 1) ^ 2, with the ones cancelled
-abbrev pub Near : ℕ → ℕ → Type 0
-Near a r = (r * r < a + r) × (a ≤ r * r + r)

@@ -1,80 +1,113 @@
--- Both ways end at a number that is nearest to the root of a, and there is only one.
-use mathlib.Core.Path.{_≡_, sym, _∙_, subst}
-use mathlib.Core.Bool.{true, _&&_}
+-- The loop's invariant: with j digits to come, the root so far and what is left over are those of `Digits`. A turn finds one digit.
+use mathlib.Core.Path.{_≡_, refl, sym, ap, _∙_, subst, subst₂}
 use mathlib.Core.Logic.{⊎-elim}
-use Prim.Native.Nat.{ℕ, _+_, _*_}
+use Prim.Native.Nat.{ℕ, zero, suc, _+_, _-_, _*_, _/_, _%_, _^_, _≤_, _<_}
+use native.Mathlib.Nat.{pow-suc, mul-div-cancel, mod-eq-of-lt, lt-irrefl, one-le-pow, zero-lt-suc}
 use native.Mathlib.Omega.{arith}
-use lib.Dec.{T, ltb, leb, ltb→lt, leb→le}
-use lib.Ieee.Fits.{and-l, and-r}
-use borrow.Author.Needs.{needs}
-use Rattle.vectors.specs.parts.Root.{Near}
-use Rattle.vectors.proofs.root.Whole.{mul-lt-pow, near-above, near-below, nearest-only}
+use Rattle.vectors.proofs.root.Digits.{Digits, digits-none, digit-left, digit-taken, rounded-up, rounded-down}
 use Rattle.vectors.proofs.root.nearest_root.Statement.{statement}
 use Rattle.vectors.proofs.root.nearest_root.Tie as tie
 
--- what the test says of the number that passed it
-near-of-test : (a r : ℕ) → (ltb (r * r) (a + r) && leb a (r * r + r)) ≡ true → Near a r
-near-of-test a r passed =
-    let t : T (ltb (r * r) (a + r) && leb a (r * r + r)) = subst T (sym passed) tt in
-    (ltb→lt (r * r) (a + r) (and-l (ltb (r * r) (a + r)) (leb a (r * r + r)) t), leb→le a (r * r + r) (and-r (ltb (r * r) (a + r)) (leb a (r * r + r)) t))
+-- j digits are to come, and `digit` is the place of the next one, or 0
+abbrev ToCome : (m rest twice digit : ℕ) → Type 0
+ToCome m rest twice digit = (j : ℕ) × (j ≤ 24) × (digit ≡ 2 ^ j / 2) × Digits (m * 2 ^ 23) j rest twice
 
-guess-requires : tie.Need-guess-requires
-guess-requires c κs = search needs
+abbrev Inv-loop : tie.InvT-loop
+Inv-loop m rest₀ twice₀ digit₀ rest twice digit = ToCome m rest twice digit
 
-mul-if1 : tie.Need-mul-if1
-mul-if1 c = record { fits = omega (arith, mul-lt-pow {a = c .guess .result} {b = c .guess .result} 26 26 (c .guess .ensures) (c .guess .ensures)) }
+abbrev μ-loop : tie.MeasureT-loop
+μ-loop m rest₀ twice₀ digit₀ rest twice digit = digit
 
-add-if1 : tie.Need-add-if1
-add-if1 c = record { fits = omega (arith, mul-lt-pow {a = c .guess .result} {b = c .guess .result} 26 26 (c .guess .ensures) (c .guess .ensures)) }
+-- where there is one
+One : (m rest twice digit : ℕ) → Type 0
+One m rest twice digit = (k : ℕ) × (k < 24) × (digit ≡ 2 ^ k) × Digits (m * 2 ^ 23) (suc k) rest twice
 
-add-near : tie.Need-add-near
-add-near c = search needs
+half-power : (k : ℕ) → 2 ^ suc k / 2 ≡ 2 ^ k
+half-power k = ap (λ (x : ℕ). x / 2) (pow-suc 2 k) ∙ mul-div-cancel (2 ^ k) (zero-lt-suc 1)
 
-is-nearest-requires : tie.Need-is-nearest-requires
-is-nearest-requires c κs = ⊎-elim (λ w. omega arith) (λ w. omega arith) (c .if1 .came)
+one-of : (m rest twice digit : ℕ) → 0 < digit → ToCome m rest twice digit → One m rest twice digit
+unfolding One
+one-of m rest twice digit some (zero, few, is, d) = absurd (lt-irrefl 0 (subst (λ (x : ℕ). 0 < x) is some))
+one-of m rest twice digit some (suc k, few, is, d) = (k, few, is ∙ half-power k, d)
 
-returns : tie.Need-returns
-returns c =
-    let start = c .before .before .before .before in
-    nearest-only (start .args .a) _ (start .pre .0) (start .pre .1) (near-of-test _ _ (sym (c .before .is-nearest .ensures) ∙ c .if2 .taken))
+none-of : (m rest twice digit : ℕ) → digit ≤ 0 → ToCome m rest twice digit → Digits (m * 2 ^ 23) 0 rest twice
+none-of m rest twice digit none (zero, few, is, d) = d
+none-of m rest twice digit none (suc k, few, is, d) = absurd (omega (arith, is ∙ half-power k, one-le-pow k 2 (zero-lt-suc 1)))
 
-floor-root-requires : tie.Need-floor-root-requires
-floor-root-requires c κs = search needs
+-- In a turn both are far below 2 ^ 32.
+few-digits : (m rest twice digit : ℕ) → One m rest twice digit → (twice + digit + digit ≤ 2 ^ 25) × (rest < 2 ^ 26)
+unfolding One
+few-digits m rest twice digit (k, few, is, d) =
+    let two : 2 ^ suc k ≡ digit * 2 = pow-suc 2 k ∙ ap (λ (x : ℕ). x * 2) (sym is) in
+    (omega (arith, d .twice-most), omega (arith, d .rest-most, d .twice-most))
 
-mul-if3 : tie.Need-mul-if3
-mul-if3 c = search needs
+turn-left : (m rest twice digit : ℕ) → One m rest twice digit → rest < twice + digit → ToCome m (rest * 2 % 2 ^ 32) twice (digit / 2)
+unfolding One
+turn-left m rest twice digit (k, few, is, d) less =
+    let small = few-digits m rest twice digit (k, few, is, d) in
+    let next = digit-left (m * 2 ^ 23) k rest twice few d (subst (λ (x : ℕ). rest < twice + x) is less) in
+    (k, omega arith, ap (λ (x : ℕ). x / 2) is, subst (λ (r : ℕ). Digits (m * 2 ^ 23) k r twice) (sym (mod-eq-of-lt (omega (arith, small)))) next)
 
-add-if3 : tie.Need-add-if3
-add-if3 c = search needs
+turn-taken : (m rest twice digit : ℕ) → One m rest twice digit → twice + digit ≤ rest → ToCome m ((rest - (twice + digit)) * 2 % 2 ^ 32) (twice + digit + digit) (digit / 2)
+unfolding One
+turn-taken m rest twice digit (k, few, is, d) enough =
+    let small = few-digits m rest twice digit (k, few, is, d) in
+    let next = digit-taken (m * 2 ^ 23) k rest twice few d (subst (λ (x : ℕ). twice + x ≤ rest) is enough) in
+    let left : (rest - (twice + digit)) * 2 % 2 ^ 32 ≡ (rest - (twice + digit)) * 2 = mod-eq-of-lt (omega (arith, small)) in (
+      k,
+      omega arith,
+      ap (λ (x : ℕ). x / 2) is,
+      subst (λ (r : ℕ). Digits (m * 2 ^ 23) k r (twice + digit + digit)) (sym left)
+          (subst (λ (x : ℕ). Digits (m * 2 ^ 23) k ((rest - (twice + x)) * 2) (twice + x + x)) (sym is) next),
+    )
 
-add-result : tie.Need-add-result
-add-result c = search needs
+one : (c : tie.In-loop Inv-loop μ-loop) → let at = c .before .loop in One (c .before .before .args .m) (at .rest) (at .twice) (at .digit)
+one c = one-of _ _ _ _ (omega (arith, c .loop-test .taken)) (c .before .loop .inv)
 
-returns-2 : tie.Need-returns-2
-returns-2 c =
-    let start = c .before .before .before .before .before .before in
-    let found = c .before .floor-root .ensures in
-    nearest-only (start .args .a) _ (start .pre .0) (start .pre .1) (near-above (start .args .a) _ (found .0, found .1) (c .if3 .taken))
+all : (c : tie.After-loop Inv-loop μ-loop) → let at = c .before .loop in Digits (c .before .before .args .m * 2 ^ 23) 0 (at .rest) (at .twice)
+all c = none-of _ _ _ _ (omega (arith, c .loop-test .left)) (c .before .loop .inv)
 
-returns-3 : tie.Need-returns-3
-returns-3 c =
-    let start = c .before .before .before .before .before .before in
-    let found = c .before .floor-root .ensures in
-    nearest-only (start .args .a) _ (start .pre .0) (start .pre .1) (near-below (start .args .a) _ (found .0, found .1) (start .pre .0) (c .if3 .left))
+loop-holds : tie.Need-loop-holds Inv-loop μ-loop
+loop-holds c = (24, omega arith, refl, digits-none _ _ (c .pre) refl)
+
+add-trial : tie.Need-add-trial Inv-loop μ-loop
+add-trial c = record { fits = omega (arith, few-digits _ _ _ _ (one c)) }
+
+add-twice : tie.Need-add-twice Inv-loop μ-loop
+add-twice c = record { fits = omega (arith, few-digits _ _ _ _ (one (c .before))) }
+
+loop-less : tie.Need-loop-less Inv-loop μ-loop
+loop-less c = omega (arith, c .before .loop-test .taken)
+
+loop-again : tie.Need-loop-again Inv-loop μ-loop
+loop-again c =
+    let at = c .before .before .loop in
+    let m = c .before .before .before .args .m in
+    ⊎-elim
+    (λ w. subst₂ (λ (r t : ℕ). ToCome m r t (at .digit / 2)) (sym (w .1)) (sym (w .2)) (turn-left m (at .rest) (at .twice) (at .digit) (one (c .before)) (omega (arith, w .0 .taken))))
+    (λ w. subst₂ (λ (r t : ℕ). ToCome m r t (at .digit / 2)) (sym (w .1)) (sym (w .2)) (turn-taken m (at .rest) (at .twice) (at .digit) (one (c .before)) (omega (arith, w .0 .left))))
+    (c .if1 .came)
+
+add-result : tie.Need-add-result Inv-loop μ-loop
+add-result c = record { fits = omega (arith, all (c .before) .twice-most) }
+
+returns : tie.Need-returns Inv-loop μ-loop
+returns c = rounded-up _ _ _ (all (c .before)) (omega (arith, c .if2 .taken))
+
+returns-2 : tie.Need-returns-2 Inv-loop μ-loop
+returns-2 c = rounded-down _ _ _ (all (c .before)) (omega (arith, c .if2 .left))
 
 pub nearest-root-spec : {M : Type 1} → statement M
 nearest-root-spec =
     tie.close
     (tie.spec
-    guess-requires
-    mul-if1
-    add-if1
-    add-near
-    is-nearest-requires
-    returns
-    floor-root-requires
-    mul-if3
-    add-if3
+    Inv-loop
+    μ-loop
+    loop-holds
+    add-trial
+    add-twice
+    loop-less
+    loop-again
     add-result
-    returns-2
-    returns-3)
+    returns
+    returns-2)

@@ -4,6 +4,7 @@ use mathlib.Core.Bool.{Bool, true, false, not, false≢true, true≢false}
 use Prim.Native.Nat.{ℕ, zero, suc, _+_, _*_, _-_, _%_, _^_, _≤_, _<_}
 use native.Mathlib.Nat.{mod-eq-of-lt, mul-pos, zero-mul, zero-lt-suc}
 use native.Mathlib.Omega.{arith}
+use lib.Bits.{bitAnd, and-mask, and-le-r}
 use lib.Dec.{T}
 use lib.Ieee.{Float, nan, inf, fin, binary32, up, down, odd, lt, eq, div, isNan, ofBits}
 use lib.IntN.{ℤ}
@@ -15,7 +16,7 @@ use denote.Floats.{passes}
 use Rattle.vectors.specs.Number.{ofWord, toWord, zero as zero32, one, _⊘_}
 use Rattle.vectors.specs.Root.{root, nearestRoot}
 use Rattle.vectors.specs.parts.Root.{Parts}
-use Rattle.vectors.proofs.root.Binary.{wholePart, halfPower, whole-bounds, root-bounds, root-parts, root-word, positive-word}
+use Rattle.vectors.proofs.root.Binary.{wholePart, halfPower, evenPart, even-most, even-whole, root-bounds, root-parts, root-word, positive-word}
 use Rattle.vectors.proofs.root.root.Statement.{statement}
 use Rattle.vectors.proofs.root.root.Tie as tie
 
@@ -69,11 +70,14 @@ rest-is-nan (fin false (suc m) e) h g = absurd (true≢false (sym (lt-ltb (0 * 1
 parts : (c : tie.After-scale) → Parts (ofWord (toWord (c .before .before .before .args .x))) (c .scale .result .digits) (c .scale .result .power)
 parts c = c .scale .ensures
 
-shifted : (c : tie.After-scale) → c .scale .result .digits * 2 ^ (24 - c .scale .result .power % 2) % 2 ^ 64 ≡ wholePart (c .scale .result .digits) (c .scale .result .power)
-shifted c = mod-eq-of-lt (omega (arith, whole-bounds _ (c .scale .result .power) (parts c .q-least) (parts c .q-most)))
+-- what is handed to `nearest_root`, by the last digit of the power
+shifted : (c : tie.After-scale) → c .scale .result .digits * 2 ^ (1 - bitAnd (c .scale .result .power) 1) % 2 ^ 32 ≡ evenPart (c .scale .result .digits) (c .scale .result .power)
+shifted c =
+    ap (λ (b : ℕ). c .scale .result .digits * 2 ^ (1 - b) % 2 ^ 32) (and-mask (c .scale .result .power) 1)
+    ∙ mod-eq-of-lt (omega (arith, even-most _ (c .scale .result .power) (parts c .q-most)))
 
 found : (c : tie.After-nearest-root) → c .nearest-root .result ≡ nearestRoot (wholePart (c .before .before .scale .result .digits) (c .before .before .scale .result .power))
-found c = c .nearest-root .ensures ∙ ap nearestRoot (shifted (c .before .before))
+found c = c .nearest-root .ensures ∙ ap (λ (m : ℕ). nearestRoot (m * 2 ^ 23)) (shifted (c .before .before)) ∙ ap nearestRoot (even-whole _ (c .before .before .scale .result .power))
 
 bounds : (c : tie.After-nearest-root) → (2 ^ 23 ≤ c .nearest-root .result) × (c .nearest-root .result < 2 ^ 24) × (halfPower (c .before .before .scale .result .power) ≤ 189)
 bounds c =
@@ -81,39 +85,35 @@ bounds c =
     let b = root-bounds _ (c .before .before .scale .result .power) (p .q-least) (p .q-most) in
     (rw (found c) (b .0), rw (found c) (b .1), omega (arith, p .p-most))
 
-float-to-bits-word : tie.Need-float-to-bits-word
-float-to-bits-word c = positive-no-nan (c .before .before .args .x) (c .before .if1 .taken)
+-- the exponent's field, moved to its place
+field : (c : tie.After-nearest-root) → let k = halfPower (c .before .before .scale .result .power) in k * 2 ^ 23 % 2 ^ 32 ≡ k * 2 ^ 23
+field c = mod-eq-of-lt (omega (arith, bounds c))
+
+float-to-bits-scale : tie.Need-float-to-bits-scale
+float-to-bits-scale c = positive-no-nan (c .before .before .args .x) (c .before .if1 .taken)
 
 scale-requires : tie.Need-scale-requires
 scale-requires c κs = positive-word _ (passes _ (c .before .before .good .0 .1)) (c .before .if1 .taken) (c .if2 .taken)
 
-sub-a : tie.Need-sub-a
-sub-a c = search needs
+sub-nearest-root : tie.Need-sub-nearest-root
+sub-nearest-root c = and-le-r (c .scale .result .power) 1
 
-shl-a : tie.Need-shl-a
-shl-a c = search needs
+shl-nearest-root : tie.Need-shl-nearest-root
+shl-nearest-root c = search needs
 
 nearest-root-requires : tie.Need-nearest-root-requires
-nearest-root-requires c κs =
-    let p = parts (c .before) in
-    rw (shifted (c .before)) (omega (arith, whole-bounds _ (c .before .scale .result .power) (p .q-least) (p .q-most)))
+nearest-root-requires c κs = subst (λ (m : ℕ). m < 2 ^ 25) (sym (shifted (c .before))) (even-most _ (c .before .scale .result .power) (parts (c .before) .q-most))
 
 sub-result : tie.Need-sub-result
-sub-result c = search needs
-
-mul-result : tie.Need-mul-result
-mul-result c = search needs
+sub-result c = omega (arith, parts (c .before .before) .p-least)
 
 add-result : tie.Need-add-result
-add-result c = omega (arith, bounds c)
-
-cast-result : tie.Need-cast-result
-cast-result c = omega (arith, bounds c)
+add-result c = record { fits = omega (arith, field c, bounds c) }
 
 float-from-bits-result : tie.Need-float-from-bits-result
 float-from-bits-result c =
     let k = halfPower (c .before .before .scale .result .power) in
-    let small : (k * 2 ^ 23 + c .nearest-root .result) % 2 ^ 31 ≤ 0x7F80_0000 = omega (arith, bounds c) in
+    let small : (k * 2 ^ 23 % 2 ^ 32 + c .nearest-root .result) % 2 ^ 31 ≤ 0x7F80_0000 = omega (arith, bounds c) in
     subst (λ (t : Bool). T (not t)) (sym (nanBits-above binary32 _ ∙ le-ltb _ _ small)) tt
 
 returns : tie.Need-returns
@@ -124,7 +124,8 @@ returns-2 c =
     let start = c .before .before .before .before .before in
     let at = c .before .before in
     let b = bounds c in
-    root-word (halfPower (at .scale .result .power)) (c .nearest-root .result) (b .2) (b .0) (b .1)
+    ap (λ (f : ℕ). ofWord (f + c .nearest-root .result)) (field c)
+    ∙ root-word (halfPower (at .scale .result .power)) (c .nearest-root .result) (b .2) (b .0) (b .1)
     ∙ ap (λ (r : ℕ). odd 24 false r (halfPower (at .scale .result .power)) 149) (found c)
     ∙ sym (root-parts _ _ _ (parts at))
     ∙ ap root (ofBits-toBits binary32 (start .args .x) (passes _ (start .good .0 .1)))
@@ -139,15 +140,13 @@ pub root-spec : {M : Type 1} → statement M
 root-spec =
     tie.close
     (tie.spec
-    float-to-bits-word
+    float-to-bits-scale
     scale-requires
-    sub-a
-    shl-a
+    sub-nearest-root
+    shl-nearest-root
     nearest-root-requires
     sub-result
-    mul-result
     add-result
-    cast-result
     float-from-bits-result
     returns
     returns-2

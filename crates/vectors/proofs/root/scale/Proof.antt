@@ -1,6 +1,7 @@
 -- Where the exponent's field is 0 the leading zeros say how far the digits are moved up; elsewhere the pattern's digits lack only their first one, which is added.
 use mathlib.Core.Path.{sym, subst}
-use Prim.Native.Nat.{ℕ, _*_, _-_, _^_, _≤_, _<_}
+use Prim.Native.Nat.{ℕ, _+_, _*_, _-_, _/_, _^_, _≤_, _<_}
+use lib.Bits.{and-mask, mask-lt}
 use lib.Count.{leadingZeros}
 use native.Mathlib.Nat.{mod-eq-of-lt}
 use native.Mathlib.Omega.{arith}
@@ -21,52 +22,29 @@ bounds c = shift-bounds (c .before .args .word) (c .before .pre .0) (small c)
 sub-shift : tie.Need-sub-shift
 sub-shift c = bounds c .0
 
-cast-t8 : tie.Need-cast-t8
-cast-t8 c = record { fits = omega (arith, bounds c) }
+shl-t6 : tie.Need-shl-t6
+shl-t6 c = omega (arith, bounds c)
 
-shl-t9 : tie.Need-shl-t9
-shl-t9 c = omega (arith, bounds c)
+sub-t7 : tie.Need-sub-t7
+sub-t7 c = omega (arith, bounds c)
 
-sub-t6 : tie.Need-sub-t6
-sub-t6 c = omega (arith, bounds c)
+add-t9 : tie.Need-add-t9
+add-t9 c = record { fits = omega (arith, mask-lt (c .before .args .word) 23) }
 
-cast-t10 : tie.Need-cast-t10
-cast-t10 c = search needs
-
-add-t12 : tie.Need-add-t12
-add-t12 c = search needs
-
-cast-t13 : tie.Need-cast-t13
-cast-t13 c = search needs
-
-add-t14 : tie.Need-add-t14
-add-t14 c = search needs
-
-cast-t15 : tie.Need-cast-t15
-cast-t15 c = search needs
+add-t10 : tie.Need-add-t10
+add-t10 c = search needs
 
 returns : tie.Need-returns
 returns c =
     let word = c .before .args .word in
     let parts = subnormal-parts word (c .before .pre .0) (small c) in
-    let whole : word * 2 ^ shiftOf word < 2 ^ 64 = omega (arith, parts .q-most) in
+    let whole : word * 2 ^ shiftOf word < 2 ^ 32 = omega (arith, parts .q-most) in
     subst (λ (q : ℕ). Parts (ofWord word) q (149 - shiftOf word)) (sym (mod-eq-of-lt whole)) parts
 
 returns-2 : tie.Need-returns-2
-returns-2 c = normal-parts (c .before .args .word) (omega arith) (c .before .pre .1)
+returns-2 c =
+    let word = c .before .args .word in
+    subst (λ (f : ℕ). Parts (ofWord word) (2 ^ 23 + f) (148 + word / 2 ^ 23)) (sym (and-mask word 23)) (normal-parts word (omega arith) (c .before .pre .1))
 
 pub scale-spec : {M : Type 1} → statement M
-scale-spec =
-    tie.close
-    (tie.spec
-    sub-shift
-    cast-t8
-    shl-t9
-    sub-t6
-    cast-t10
-    add-t12
-    cast-t13
-    add-t14
-    cast-t15
-    returns
-    returns-2)
+scale-spec = tie.close (tie.spec sub-shift shl-t6 sub-t7 add-t9 add-t10 returns returns-2)
