@@ -59,6 +59,15 @@ int main(void) {
     memcpy(&word, &root, sizeof word);
     printf("the root of 2: %08" PRIx32 "\n", word);
 
+    float numbers[GUINEACRUMB_ROOTS_LENGTH] = {0, 1, 2, 3, 4, 5, 6, 7};
+    guineacrumb_roots(numbers);
+    printf("the roots of 0 to 7:");
+    for (int i = 0; i < GUINEACRUMB_ROOTS_LENGTH; i++) {
+        memcpy(&word, &numbers[i], sizeof word);
+        printf(" %08" PRIx32, word);
+    }
+    printf("\n");
+
     struct request request = {
         .agent = {.radius = 1, .responsibility = 1},
         .max_speed = 2,

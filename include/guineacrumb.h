@@ -33,10 +33,10 @@ extern "C" {
 
 /* The version, here and nowhere else: what else has one is made from these lines, or held against them. */
 #define GUINEACRUMB_VERSION_MAJOR 0
-#define GUINEACRUMB_VERSION_MINOR 1
+#define GUINEACRUMB_VERSION_MINOR 2
 #define GUINEACRUMB_VERSION_PATCH 0
 
-/* The same as one number, a byte each: 0x000100 is 0.1.0. */
+/* The same as one number, a byte each: 0x000200 is 0.2.0. */
 #define GUINEACRUMB_VERSION                                                                               \
     (GUINEACRUMB_VERSION_MAJOR << 16 | GUINEACRUMB_VERSION_MINOR << 8 | GUINEACRUMB_VERSION_PATCH)
 
@@ -83,6 +83,19 @@ enum guineacrumb_answer {
  * errno is left alone.
  */
 float guineacrumb_root(float x);
+
+/* The numbers that guineacrumb_roots takes. */
+#define GUINEACRUMB_ROOTS_LENGTH 8
+
+/*
+ * The square roots of eight numbers, in place: in the place of each number stands what guineacrumb_root gives
+ * for it, whatever the others are. So zeros and +infinity stay as they are, what is below 0 becomes a NaN, and
+ * a NaN becomes a NaN, whose sign and payload are not promised. The eight are worked out side by side, in less
+ * time than by eight calls.
+ *
+ * The pointer is not null, and eight numbers are lent. errno is left alone.
+ */
+void guineacrumb_roots(float numbers[GUINEACRUMB_ROOTS_LENGTH]);
 
 /* The numbers of a request, of an agent and of a velocity. */
 #define GUINEACRUMB_REQUEST_LENGTH 17

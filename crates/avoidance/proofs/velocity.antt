@@ -1,5 +1,6 @@
 -- Laws of the velocity call, beside the proofs of its functions.
 pub mod Planes
+pub mod Passing
 pub mod FitCalls
 pub mod Places
 pub mod Unseen

@@ -2,10 +2,12 @@
 // Rust's lib.rs. The types stand here, and what is done with them in the modules. Every public function is
 // total, and ensures equality with a definition of `specs/`, which stands there under the same name.
 pub mod checks;
+mod groups;
 pub mod lent;
 pub mod neighbour;
 pub mod replies;
 pub mod requests;
+mod stages;
 pub mod velocity;
 
 use refusals::Found;

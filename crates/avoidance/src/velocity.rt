@@ -1,20 +1,25 @@
 // Document 01, module 7: the velocity call, `compute_avoiding_velocity` of lib.rs with its refusals. The
 // definitions are in `specs/Velocity.antt`.
 ghost use mathlib.Core.Path.{_≡_};
-ghost use Prim.Native.Nat.{_*_, _≤_, _<_};
+ghost use Prim.Native.Nat.{_+_, _*_, _≤_, _<_};
 ghost use lib.ListN.{length, drop};
 ghost use Rattle.solver.specs.Lent.{scratchFor};
 ghost use Rattle.avoidance.specs.Lent.{perAgent, agentCount};
 ghost use Rattle.avoidance.specs.Velocity.{planeOf, finitePlane, planesFrom, unseenFrom, planesOfCall, answeredWith, replyOf, plannedReply, plannedScratch, velocityCall, scratchAfter};
-ghost use Rattle.avoidance.specs.parts.Velocity.{noted, Written};
+ghost use Rattle.avoidance.specs.parts.Velocity.{noted, MadeWritten, Passed, Written};
 use super::AGENT_NUMBERS;
 use super::Course;
 use super::NeighbourPlane;
 use super::Reply;
 use super::Request;
 use super::checks::checks;
+use super::groups::LANES;
+use super::groups::approaches;
+use super::groups::directions;
+use super::groups::lengths;
 use super::lent::agent_at;
 use super::neighbour::plane_for;
+use super::stages::plane_with;
 use refusals::Found;
 use refusals::Refusal;
 use refusals::Verdict;
@@ -75,6 +80,60 @@ fn noted(found: Found, unseen: bool, index: usize) -> Found
     }
 }
 
+// Writes the plane for the neighbour at `index`, where it is finite, and notes whether the neighbour is unseen.
+fn write_made(scratch: &mut [f32], index: usize, made: NeighbourPlane, unseen: Found) -> Made
+    ensures { λ r. ⌜ MadeWritten index made unseen (now (scratch .entry)) (now (scratch .exit)) r ⌝ }
+{
+    if !is_finite_plane(made.plane) {
+        return Made::NotFinite(index);
+    }
+    write_plane(scratch, index, made.plane);
+    Made::Finite(noted(unseen, made.unseen, index))
+}
+
+// Writes the planes for the `size` neighbours from `start` on, at most eight, up to the first that is not finite. One
+// alone has nobody to share its roots with.
+fn write_group(
+    scratch: &mut [f32],
+    request: Request,
+    neighbours: &[f32],
+    start: usize,
+    size: usize,
+    unseen: Found,
+) -> Made
+    requires { ⌜ (scratchFor (agentCount (now neighbours)) ≤ length (now scratch)) × (0 < size) × (size ≤ 8) × (start + size ≤ agentCount (now neighbours)) ⌝ }
+    ensures { λ r. ⌜ Passed request (now (neighbours .entry)) start (start + size) unseen (now (scratch .entry)) (now (scratch .exit)) r ⌝ }
+{
+    if size == 1 {
+        let made = plane_of(request, neighbours, start);
+        return write_made(scratch, start, made, unseen);
+    }
+    let approaches = approaches(request, neighbours, start, size);
+    let directions = directions(approaches);
+    let lengths = lengths(directions);
+    let mut unseen = unseen;
+    let mut lane = 0;
+    while lane < size {
+        let made = plane_with(
+            request.agent,
+            approaches[lane],
+            directions[lane],
+            lengths[lane],
+            request.horizon,
+            request.time_step,
+            request.fallback,
+        );
+        unseen = match write_made(scratch, start + lane, made, unseen) {
+            Made::Finite(found) => found,
+            Made::NotFinite(neighbour) => {
+                return Made::NotFinite(neighbour);
+            }
+        };
+        lane += 1;
+    }
+    Made::Finite(unseen)
+}
+
 // Writes the plane for each neighbour to the beginning of scratch, up to the first that is not finite.
 fn write_planes(scratch: &mut [f32], request: Request, neighbours: &[f32]) -> Made
     requires { ⌜ scratchFor (agentCount (now neighbours)) ≤ length (now scratch) ⌝ }
@@ -84,13 +143,15 @@ fn write_planes(scratch: &mut [f32], request: Request, neighbours: &[f32]) -> Ma
     let mut unseen = Found::Nothing;
     let mut index = 0;
     while index < count {
-        let made = plane_of(request, neighbours, index);
-        if !is_finite_plane(made.plane) {
-            return Made::NotFinite(index);
-        }
-        write_plane(scratch, index, made.plane);
-        unseen = noted(unseen, made.unseen, index);
-        index += 1;
+        let left = count - index;
+        let size = if left < LANES { left } else { LANES };
+        unseen = match write_group(scratch, request, neighbours, index, size, unseen) {
+            Made::Finite(found) => found,
+            Made::NotFinite(neighbour) => {
+                return Made::NotFinite(neighbour);
+            }
+        };
+        index += size;
     }
     Made::Finite(unseen)
 }

@@ -1,6 +1,6 @@
 -- The version of the library, as include/guineacrumb.h names it.
 use Prim.Native.Nat.{ℕ}
 
--- 0.1.0, a byte each
+-- 0.2.0, a byte each
 abbrev pub version : ℕ
-version = 256
+version = 512

@@ -1,6 +1,7 @@
 // The static library for C and Rust: thin exported functions, each over one public function of the
 // crates below, with that function's promise. include/guineacrumb.h declares them for C.
 ghost use mathlib.Core.Path.{_≡_};
+ghost use mathlib.Core.List.{map};
 ghost use lib.ListN.{length};
 ghost use Rattle.vectors.specs.Root.{root};
 ghost use Rattle.fleet.specs.Answer.{number, placeOf};
@@ -18,7 +19,7 @@ use vectors::Vec3;
 const UNFIT: u32 = 255;
 
 // The version of the library, a byte each for its three numbers.
-const VERSION: u32 = 0x00_01_00;
+const VERSION: u32 = 0x00_02_00;
 
 // The numbers of a velocity.
 const VELOCITY_NUMBERS: usize = 3;
@@ -40,6 +41,14 @@ pub extern "C" fn guineacrumb_root(x: f32) -> f32
     ensures { λ r. ⌜ r ≡ root x ⌝ }
 {
     vectors::root::root(x)
+}
+
+// Of each of eight numbers, the nearest binary32 to its root, in place.
+#[no_mangle]
+pub extern "C" fn guineacrumb_roots(numbers: &mut [f32; 8])
+    ensures { λ _. ⌜ now (numbers .exit) ≡ map root (now (numbers .entry)) ⌝ }
+{
+    *numbers = vectors::roots::roots(*numbers);
 }
 
 fn or_none(found: Found) -> u64

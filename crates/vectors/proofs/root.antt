@@ -2,5 +2,6 @@
 pub mod Whole
 pub mod Digits
 pub mod Binary
+pub mod NotAbove
 pub mod Nearest
 pub mod Examples

@@ -2,6 +2,7 @@
 // stands on. Every public function is total, and ensures equality with a definition of `specs/`.
 pub mod number;
 pub mod root;
+pub mod roots;
 pub mod vector;
 
 // A vector of three numbers; what is done with it is in `vector`.

@@ -8,12 +8,12 @@ ghost use mathlib.Core.Path.{_≡_};
 ghost use Prim.Native.Nat.{_*_, _^_, _<_};
 ghost use Rattle.vectors.specs.Number.{ofWord};
 ghost use Rattle.vectors.specs.Root.{root, nearestRoot};
-ghost use Rattle.vectors.specs.parts.Root.{Parts};
+ghost use Rattle.vectors.specs.parts.Root.{Parts, roundedOf};
 
 // A float as digits * 2^power * 4^-149, with 24 binary digits.
-struct Scaled {
-    digits: u32,
-    power: u32,
+pub struct Scaled {
+    pub digits: u32,
+    pub power: u32,
 }
 
 fn scale(word: u32) -> Scaled
@@ -32,6 +32,18 @@ fn scale(word: u32) -> Scaled
             digits: 0x80_0000 + (word & 0x7F_FFFF),
             power: 148 + field,
         }
+    }
+}
+
+// Half of `twice`, which is the root in whole numbers, or the next number where more is left over than the root itself.
+pub(crate) fn rounded(rest: u32, twice: u32) -> u32
+    requires { ⌜ twice < 2 ^ 31 ⌝ }
+    ensures { λ r. ⌜ r ≡ roundedOf rest twice ⌝ }
+{
+    if twice < rest {
+        (twice >> 1) + 1
+    } else {
+        twice >> 1
     }
 }
 
@@ -56,11 +68,7 @@ fn nearest_root(m: u32) -> u32
         }
         digit = digit >> 1;
     }
-    if twice < rest {
-        (twice >> 1) + 1
-    } else {
-        twice >> 1
-    }
+    rounded(rest, twice)
 }
 
 // The nearest binary32 to the root of x. A zero keeps its sign; +infinity stays; a negative number

@@ -2,7 +2,8 @@
 //! refusals. A refusal can be displayed too: it then says why, and what to do about it.
 //! examples/run builds it and compares what it prints with examples/stdout.
 use guineacrumb::{
-    root, scratch_length, velocity, version, Agent, Refusal, Request, Velocity, MOST_NEIGHBOURS,
+    root, roots, scratch_length, velocity, version, Agent, Refusal, Request, Velocity,
+    MOST_NEIGHBOURS,
 };
 
 /// One more than a call takes.
@@ -41,6 +42,9 @@ fn main() {
     );
 
     println!("the root of 2: {:08x}", root(2.0).to_bits());
+    let numbers = roots([0.0, 1.0, 2.0, 3.0, 4.0, 5.0, 6.0, 7.0]);
+    let words = numbers.map(|x| format!("{:08x}", x.to_bits()));
+    println!("the roots of 0 to 7: {}", words.join(" "));
 
     let still = Agent {
         position: [0.0; 3],

@@ -8,6 +8,8 @@ extern "C" {
 
     fn guineacrumb_root(x: f32) -> f32;
 
+    fn guineacrumb_roots(numbers: *mut f32);
+
     fn guineacrumb_velocity(
         request: *const f32,
         request_length: usize,
@@ -153,7 +155,7 @@ impl fmt::Display for Refusal {
 
 impl Error for Refusal {}
 
-/// The version of the library, a byte each for its three numbers: 0x000100 is 0.1.0, and so is this crate's where
+/// The version of the library, a byte each for its three numbers: 0x000200 is 0.2.0, and so is this crate's where
 /// the two belong together.
 pub fn version() -> u32 {
     // SAFETY: the function gives a number, and touches no memory.
@@ -164,6 +166,13 @@ pub fn version() -> u32 {
 pub fn root(x: f32) -> f32 {
     // SAFETY: the function takes and gives a number, and touches no memory.
     unsafe { guineacrumb_root(x) }
+}
+
+/// The nearest f32 to the square root of each of eight numbers, in less time than by eight calls of `root`.
+pub fn roots(mut numbers: [f32; 8]) -> [f32; 8] {
+    // SAFETY: the pointer is to eight numbers, which are this function's own.
+    unsafe { guineacrumb_roots(numbers.as_mut_ptr()) };
+    numbers
 }
 
 /// The scratch numbers that so many neighbours need.

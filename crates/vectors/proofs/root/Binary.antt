@@ -7,6 +7,7 @@ use native.Mathlib.Omega.{arith}
 use lib.IntN.{ℤ}
 use lib.Dec.{T, leb, eqb}
 use lib.Pow.{pow-add, pow-pos, pow-mono, shl-lt}
+use lib.Bits.{bitAnd, and-mask}
 use lib.Count.{leadingZeros, leading-top}
 use lib.Ieee.{Float, nan, inf, fin, binary32, up, down, size, odd, lt, div, fits, ofFields, ofBits}
 use lib.Ieee.Bits.{ofBits-toBits}
@@ -188,6 +189,25 @@ root-word k r top lo hi =
     ∙ normal-fields k ((k * 2 ^ 23 + r) % 2 ^ 23) (omega arith)
     ∙ ap (λ (q : ℕ). odd 24 false q k 149) digits
 
+-- ---- an argument's parts, as the code has them: the last digit by a mask, shifted in 32 bits
+
+module _ (x : Float) (q p : ℕ) (parts : Parts x q p) where
+  pub even-is : q * 2 ^ (1 - bitAnd p 1) % 2 ^ 32 ≡ evenPart q p
+  even-is = ap (λ (b : ℕ). q * 2 ^ (1 - b) % 2 ^ 32) (and-mask p 1) ∙ mod-eq-of-lt (lt-of-lt-of-le (even-most q p (parts .q-most)) (pow-mono {i = 25} {j = 32} (omega arith)))
+
+  pub field-is : halfPower p * 2 ^ 23 % 2 ^ 32 ≡ halfPower p * 2 ^ 23
+  field-is = mod-eq-of-lt (omega (arith, parts .p-most))
+
+  -- the root's pattern, from that of its digits
+  pub pattern-is : (r : ℕ) → r ≡ nearestRoot (evenPart q p * 2 ^ 23) → (halfPower p * 2 ^ 23 + r < 0x7F80_0000) × (ofWord (halfPower p * 2 ^ 23 + r) ≡ root x)
+  pattern-is r is =
+      let found : r ≡ nearestRoot (wholePart q p) = is ∙ ap nearestRoot (even-whole q p) in
+      let b = root-bounds q p (parts .q-least) (parts .q-most) in
+      let least : 2 ^ 23 ≤ r = rw found (b .0) in
+      let most : r < 2 ^ 24 = rw found (b .1) in
+      let top : halfPower p ≤ 189 = omega (arith, parts .p-most) in
+      (omega arith, root-word (halfPower p) r top least most ∙ ap (λ (n : ℕ). odd 24 false n (halfPower p) 149) found ∙ sym (root-parts x q p parts))
+
 -- ---- the pattern of a positive finite number
 
 at-top : (t : Bool) → lt (cond t (inf false) nan) (one ⊘ zero32) ≡ false
@@ -234,6 +254,14 @@ positive-bits (suc w) above below = (omega arith, lt-of-not-le (λ (g : 0x7F80_0
     go : 0x7F80_0000 ≤ suc w → (b : Bool) → leb (2 ^ 31) (suc w) ≡ b → ⊥
     go g true e = false≢true (sym (negative-word (suc w) (leb-true (2 ^ 31) (suc w) e)) ∙ above)
     go g false e = false≢true (sym (top-word (suc w) g (leb-false (2 ^ 31) (suc w) e)) ∙ below)
+
+-- a number above zero has no sign
+pub above-word : (x : Float) → T (fits binary32 x) → lt zero32 x ≡ true → (0 < toWord x) × (toWord x < 2 ^ 31)
+above-word x h above = go (toWord x) (ap (λ (v : Float). lt zero32 v) (ofBits-toBits binary32 x h) ∙ above)
+  where
+    go : (w : ℕ) → lt zero32 (ofWord w) ≡ true → (0 < w) × (w < 2 ^ 31)
+    go zero up = absurd (false≢true (sym zero-word ∙ up))
+    go (suc w) up = (zero-lt-suc w, lt-of-not-le (λ (g : 2 ^ 31 ≤ suc w). false≢true (sym (negative-word (suc w) g) ∙ up)))
 
 pub positive-word : (x : Float) → T (fits binary32 x) → lt zero32 x ≡ true → lt x (one ⊘ zero32) ≡ true → (0 < toWord x) × (toWord x < 0x7F80_0000)
 positive-word x h above below =

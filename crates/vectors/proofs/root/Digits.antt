@@ -1,16 +1,17 @@
 -- The root of an a of 48 digits, a digit at a time from the leading one. With j digits still to come, twice the root so far and what is left over are kept as whole numbers of 26 digits at most:
 --     digits-none                 what stands before the first digit
---     digit-left, digit-taken     after one digit more, a 0 or a 1
---     rounded-up, rounded-down    after the last one, on which side of the half the root lies
+--     digit-left, digit-taken     after one digit more, a 0 or a 1; digit-next: either
+--     rounded-is                  after the last one, on which side of the half the root lies
 use mathlib.Core.Path.{_≡_, refl, sym, ap, ap₂, _∙_, subst}
-use mathlib.Core.Bool.{Bool, true, false, cond}
+use mathlib.Core.Bool.{Bool, true, false, not, cond}
 use Prim.Native.Nat.{ℕ, zero, suc, _+_, _-_, _*_, _/_, _^_, _≤_, _<_}
-use native.Mathlib.Nat.{add-mul, mul-add, mul-assoc, mul-comm, mul-one, mul-mul-mul-comm, mul-lt-mul-of-pos-right, mul-le-mul-right, pow-suc, one-le-pow, zero-lt-suc, div-one, div-div-eq-div-mul, div-lt-iff-lt-mul, le-div-iff-mul-le}
+use native.Mathlib.Nat.{add-mul, mul-add, mul-assoc, mul-comm, mul-one, mul-mul-mul-comm, mul-lt-mul-of-pos-right, mul-le-mul-right, pow-suc, one-le-pow, zero-lt-suc, div-one, div-div-eq-div-mul, div-lt-iff-lt-mul, le-div-iff-mul-le, mul-div-cancel, lt-irrefl}
 use native.Mathlib.Omega.{arith}
-use lib.Dec.{leb}
+use lib.Dec.{T, leb, ltb, ltb→lt, nltb→le}
 use lib.Pow.{pow-pos}
 use borrow.Author.Tests.{le-leb, lt-leb, lt-ltb, le-ltb}
 use Rattle.vectors.specs.Root.{floorRoot, nearestRoot}
+use Rattle.vectors.specs.parts.Root.{restAfter, twiceAfter, roundedOf}
 use Rattle.vectors.proofs.root.Whole.{square-sum, four-pow}
 
 -- The root so far, at its place: the whole root of all but the last 2 * j digits of a, and j zeros.
@@ -83,6 +84,19 @@ less-square : (a s b more : ℕ) → 2 * a ≡ 2 * (s * s) + (more + (2 * s + b)
 less-square a s b more is =
     omega (arith, square-sum s b, doubled (more + (2 * s + b)) b, add-mul more (2 * s + b) b, add-mul (2 * s) b b, mul-assoc 2 s b, mul-comm more 2, mul-assoc 2 more b)
 
+-- ---- the place of the next digit, where j are to come: halved at each, and 0 after the last
+
+half-power : (k : ℕ) → 2 ^ suc k / 2 ≡ 2 ^ k
+half-power k = ap (λ (x : ℕ). x / 2) (pow-suc 2 k) ∙ mul-div-cancel (2 ^ k) (zero-lt-suc 1)
+
+pub next-place : (j digit : ℕ) → digit ≡ 2 ^ j / 2 → 0 < digit → (k : ℕ) × (j ≡ suc k) × (digit ≡ 2 ^ k)
+next-place zero digit is some = absurd (lt-irrefl 0 (subst (λ (x : ℕ). 0 < x) is some))
+next-place (suc k) digit is some = (k, refl, is ∙ half-power k)
+
+pub no-place : (j digit : ℕ) → digit ≡ 2 ^ j / 2 → digit ≤ 0 → j ≡ 0
+no-place zero digit is none = refl
+no-place (suc k) digit is none = absurd (omega (arith, is ∙ half-power k, pow-pos k))
+
 -- ---- one digit more
 
 pub digits-none : (a : ℕ) (m : ℕ) → m < 2 ^ 25 → a ≡ m * 2 ^ 23 → Digits a 24 m 0
@@ -124,6 +138,19 @@ digit-taken a k rest twice few d enough =
       twice-most = omega (arith, d .twice-most);
     }
 
+-- a 0 or a 1, by what is left over
+pub digit-next : (a k rest twice : ℕ) → k < 24 → Digits a (suc k) rest twice → Digits a k (restAfter rest twice (2 ^ k)) (twiceAfter rest twice (2 ^ k))
+digit-next a k rest twice few d = go (ltb rest (twice + 2 ^ k)) (ltb→lt rest (twice + 2 ^ k)) (nltb→le rest (twice + 2 ^ k))
+  where
+    go : (b : Bool) → (T b → rest < twice + 2 ^ k) → (T (not b) → twice + 2 ^ k ≤ rest)
+        → Digits a k (cond b (rest * 2) ((rest - (twice + 2 ^ k)) * 2)) (cond b twice (twice + 2 ^ k + 2 ^ k))
+    go true less enough = digit-left a k rest twice few d (less tt)
+    go false less enough = digit-taken a k rest twice few d (enough tt)
+
+-- both are far below 2 ^ 32
+pub few-digits : (a k rest twice : ℕ) → Digits a (suc k) rest twice → (rest < 2 ^ 26) × (twice + 2 ^ k + 2 ^ k ≤ 2 ^ 25)
+few-digits a k rest twice d = let two : 2 ^ suc k ≡ 2 ^ k * 2 = pow-suc 2 k in (omega (arith, d .rest-most, d .twice-most), omega (arith, d .twice-most))
+
 -- ---- all digits: above the half exactly where more is left over than the root itself
 
 last-root : (a rest twice : ℕ) → Digits a 0 rest twice → let s = floorRoot 24 a in (twice ≡ 2 * s) × (2 * a ≡ 2 * (s * s) + rest)
@@ -136,16 +163,14 @@ last-root a rest twice d =
 halves : (a s rest twice : ℕ) → (twice ≡ 2 * s) × (2 * a ≡ 2 * (s * s) + rest) → (twice / 2 ≡ s) × (twice < rest → s * s + s < a) × (rest ≤ twice → a ≤ s * s + s)
 halves a s rest twice last = (omega (arith, last), λ above. omega (arith, last), λ below. omega (arith, last))
 
-pub rounded-up : (a rest twice : ℕ) → Digits a 0 rest twice → twice < rest → twice / 2 + 1 ≡ nearestRoot a
+pub rounded-is : (a rest twice : ℕ) → Digits a 0 rest twice → roundedOf rest twice ≡ nearestRoot a
 unfolding nearestRoot
-rounded-up a rest twice d above =
+rounded-is a rest twice d =
     let s = floorRoot 24 a in
     let half = halves a s rest twice (last-root a rest twice d) in
-    ap (λ (x : ℕ). x + 1) (half .0) ∙ sym (ap (λ (b : Bool). cond b (s + 1) s) (lt-ltb (s * s + s) a (half .1 above)))
-
-pub rounded-down : (a rest twice : ℕ) → Digits a 0 rest twice → rest ≤ twice → twice / 2 ≡ nearestRoot a
-unfolding nearestRoot
-rounded-down a rest twice d below =
-    let s = floorRoot 24 a in
-    let half = halves a s rest twice (last-root a rest twice d) in
-    half .0 ∙ sym (ap (λ (b : Bool). cond b (s + 1) s) (le-ltb (s * s + s) a (half .2 below)))
+    ap (λ (x : ℕ). cond (ltb twice rest) (x + 1) x) (half .0)
+    ∙ ap (λ (b : Bool). cond b (s + 1) s) (side s (ltb twice rest) (ltb→lt twice rest) (nltb→le twice rest) (half .1) (half .2))
+  where
+    side : (s : ℕ) (b : Bool) → (T b → twice < rest) → (T (not b) → rest ≤ twice) → (twice < rest → s * s + s < a) → (rest ≤ twice → a ≤ s * s + s) → b ≡ ltb (s * s + s) a
+    side s true above below up down = sym (lt-ltb _ _ (up (above tt)))
+    side s false above below up down = sym (le-ltb _ _ (down (below tt)))

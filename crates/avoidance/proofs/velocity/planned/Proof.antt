@@ -1,5 +1,5 @@
 -- `planned` writes the planes, solves them in place and clears the scratch where there is no answer.
-use mathlib.Core.Path.{_≡_, refl, sym, ap, _∙_}
+use mathlib.Core.Path.{_≡_, sym, ap, _∙_}
 use mathlib.Core.List.{List, _++_, append-nil}
 use Prim.Native.Nat.{ℕ, _+_, _*_, _/_}
 use native.Mathlib.Nat.{le-of-eq}
@@ -13,18 +13,17 @@ use Rattle.solver.specs.declared.Plane.{Plane}
 use Rattle.solver.specs.declared.Solution.{Solution}
 use Rattle.avoidance.specs.declared.Request.{Request}
 use Rattle.refusals.specs.declared.Found.{Found}
-use Rattle.refusals.specs.declared.Found.the-variants.{At, Nothing}
 use Rattle.avoidance.specs.declared.Reply.{Reply}
 use Rattle.refusals.specs.Conditions.{firstBad}
 use Rattle.solver.specs.Lent.{planesOf, numbersOfPlanes}
 use Rattle.solver.specs.FourD.{halfCleared}
 use Rattle.solver.specs.Solve.{solve}
-use Rattle.avoidance.specs.declared.velocity.Made.the-variants.{Finite, NotFinite}
+use Rattle.avoidance.specs.declared.velocity.Made.the-variants.{Finite}
 use Rattle.avoidance.specs.parts.Velocity.{madeOf}
 use Rattle.avoidance.specs.Velocity.{planesOfCall, unseenOfCall, badPlane, firstUnseen, replyOf, planesVerdict, plannedReply, plannedScratch}
 use Rattle.solver.proofs.four_d.Scratch.{cleared-length}
 use Rattle.solver.proofs.LentPlanes.{flat-read, half-cleared}
-use Rattle.avoidance.proofs.velocity.Planes.{from-length}
+use Rattle.avoidance.proofs.velocity.Planes.{from-length, none-made, one-made}
 use Rattle.avoidance.proofs.velocity.planned.Statement.{statement}
 use Rattle.avoidance.proofs.velocity.planned.Tie as tie
 
@@ -46,15 +45,6 @@ module _ (n : ℕ) (planes : List Plane) (xs ys : List Float) (is : length xs �
   half-is =
       half-cleared n planes (drop (6 * n) xs) ys count-is many stands
       ∙ ap (λ (zs : List Float). numbersOfPlanes planes ++ replicate (6 * n) zero ++ zs) (drop-of-length-le ys (le-of-eq (same ∙ is)) ∙ sym (drop-of-length-le xs (le-of-eq is)))
-
--- what making the planes came to says which of them is not finite, if one is, and else which neighbour is unseen
-none-made : (found first unseen : Found) → Finite unseen ≡ madeOf found first → (found ≡ Nothing) × (unseen ≡ first)
-none-made (At neighbour) first unseen e = let z : _≡_ {A = ℕ} 0 1 = cc in absurd (omega arith)
-none-made Nothing first unseen e = (refl, cc)
-
-one-made : (found first : Found) (neighbour : ℕ) → NotFinite neighbour ≡ madeOf found first → found ≡ At neighbour
-one-made (At k) first neighbour e = cc
-one-made Nothing first neighbour e = let z : _≡_ {A = ℕ} 0 1 = cc in absurd (omega arith)
 
 -- the answer where every plane is finite
 all-finite : (request : Request) (neighbours : List Float) (unseen : Found) → Finite unseen ≡ madeOf (firstBad badPlane 0 (planesOfCall request neighbours)) (firstUnseen request neighbours)

@@ -1,150 +1,104 @@
--- At each turn the planes passed stand at the beginning of the scratch, the first one left that is not finite is that of the whole list, and so is
--- the first neighbour that is unseen, of those passed or else of those left.
-use mathlib.Core.Path.{_≡_, refl, sym, ap, _∙_}
-use mathlib.Core.Bool.{Bool, not}
-use mathlib.Core.List.{List, _++_}
-use Prim.Native.Nat.{ℕ, _+_, _-_, _*_, _/_, _≤_}
+-- Group after group takes the writing further, from no plane to all of them or up to one that is not finite.
+use mathlib.Core.Path.{_≡_}
+use mathlib.Core.Logic.{⊎-elim}
+use Prim.Native.Nat.{_+_, _-_, _/_, _≤_, _<_}
 use native.Mathlib.Omega.{arith}
 use borrow.Author.Needs.{needs}
-use borrow.Author.Tests.{not-true, not-false}
 use denote.Ref.{now}
-use lib.Ieee.{Float}
-use lib.ListN.{length, drop}
-use Rattle.refusals.specs.declared.Found.{Found}
-use Rattle.refusals.specs.declared.Found.the-variants.{At}
-use Rattle.refusals.specs.Conditions.{firstBad}
-use Rattle.refusals.proofs.Conditions.{orElse}
-use Rattle.solver.specs.declared.Plane.{Plane}
-use Rattle.solver.specs.Lent.{withPlane, numbersOfPlanes}
-use Rattle.solver.proofs.Written.{with-room, written-length}
-use Rattle.solver.proofs.LentPlanes.{flat-none, written-next}
-use Rattle.avoidance.specs.declared.NeighbourPlane.{NeighbourPlane}
-use Rattle.avoidance.specs.declared.Request.{Request}
-use Rattle.avoidance.specs.declared.velocity.Made.the-variants.{Finite, NotFinite}
-use Rattle.avoidance.specs.Velocity.{planeOf, eachFrom, planesFrom, unseenFrom, finitePlane, badPlane, isUnseen}
-use Rattle.avoidance.specs.parts.Velocity.{noted, madeOf}
-use Rattle.avoidance.proofs.velocity.Planes.{fromOn, from-all, from-length, from-more, found-here, found-later, found-none, or-nothing, noted-on}
+use lib.ListN.{length}
+use Rattle.refusals.specs.declared.Found.the-variants.{Nothing}
+use Rattle.avoidance.specs.declared.velocity.Made.the-variants.{Finite}
+use Rattle.avoidance.specs.parts.Velocity.{Passed}
+use Rattle.avoidance.proofs.velocity.Passing.{written-none, passed-none, passed-on, passed-stopped}
 use Rattle.avoidance.proofs.velocity.write_planes.Statement.{statement}
 use Rattle.avoidance.proofs.velocity.write_planes.Tie as tie
 
--- of the neighbour in the first numbers of a list
-abbrev planeIn : Request → List Float → Plane
-planeIn request neighbour = planeOf request neighbour .plane
-
-abbrev unseenIn : Request → List Float → Bool
-unseenIn request neighbour = planeOf request neighbour .unseen
-
-not-both : {P : Type 0} {neighbour : ℕ} {first : Found} → NotFinite neighbour ≡ Finite first → P
-not-both e = let z : _≡_ {A = ℕ} 0 1 = cc in absurd (omega arith)
-
 abbrev Inv-loop : tie.InvT-loop
-Inv-loop scratch₀ request neighbours count unseen₀ index₀ scratch unseen index =
-    (index ≤ count) × (length scratch ≡ length scratch₀) × (scratch ≡ numbersOfPlanes (planesFrom request index neighbours) ++ drop (6 * index) scratch₀)
-    × (firstBad badPlane index (fromOn (planeIn request) count index neighbours) ≡ firstBad badPlane 0 (planesFrom request count neighbours))
-    × (orElse unseen (firstBad isUnseen index (fromOn (unseenIn request) count index neighbours)) ≡ firstBad isUnseen 0 (unseenFrom request count neighbours))
+Inv-loop scratch₀ request neighbours count unseen₀ index₀ scratch unseen index = (index ≤ count) × Passed request neighbours 0 index Nothing scratch₀ scratch (Finite unseen)
 
 abbrev μ-loop : tie.MeasureT-loop
 μ-loop scratch₀ request neighbours count unseen₀ index₀ scratch unseen index = count - index
 
-finite-is : (c : tie.After-is-finite-plane Inv-loop μ-loop)
-    → let at = c .before .before .before in
+-- a group has at least one neighbour, at most eight, and none past the last
+sized : (c : tie.Joined1 Inv-loop μ-loop)
+    → let at = c .before .before in
+    let count = length (now (at .before .before .before .args .neighbours)) / 8 in
+    (0 < c .if1 .size) × (c .if1 .size ≤ 8) × (at .loop .index + c .if1 .size ≤ count)
+sized c =
+    let inside = c .before .loop-test .taken in
+    ⊎-elim
+    (λ w. let is = w .1 in let few = w .0 .taken in (omega arith, omega arith, omega arith))
+    (λ w. let is = w .1 in let many = w .0 .left in (omega arith, omega arith, omega arith))
+    (c .if1 .came)
+
+-- what one group comes to, from the first neighbour on
+one-further : (c : tie.After-slice-known2 Inv-loop μ-loop)
+    → let called = c .before .before in
+    let at = called .before .before .before .before in
     let start = at .before .before .before in
-    finitePlane (planeIn (start .args .request) (drop (8 * at .loop .index) (now (start .args .neighbours)))) ≡ c .is-finite-plane .result
-finite-is c = sym (c .is-finite-plane .ensures ∙ ap (λ (made : NeighbourPlane). finitePlane (made .plane)) (c .before .plane-of .ensures))
+    Passed (start .args .request) (now (start .args .neighbours)) 0 (at .loop .index + called .before .before .if1 .size) Nothing (now (start .args .scratch)) (called .write-group .last .0) (called .write-group .result)
+one-further c =
+    let called = c .before .before in
+    let at = called .before .before .before .before in
+    let start = at .before .before .before in
+    passed-on (start .args .request) (now (start .args .neighbours)) (at .loop .inv .1) (called .write-group .ensures)
 
 loop-holds : tie.Need-loop-holds Inv-loop μ-loop
-unfolding eachFrom
 loop-holds c =
     let start = c .before .before in
-    let request = start .args .request in
-    let neighbours = now (start .args .neighbours) in
-    let count = length neighbours / 8 in (
-      omega arith,
-      refl,
-      sym (ap (λ (xs : List Float). xs ++ now (start .args .scratch)) flat-none),
-      ap (firstBad badPlane 0) (from-all (planeIn request) count neighbours),
-      ap (firstBad isUnseen 0) (from-all (unseenIn request) count neighbours),
-    )
+    (omega arith, passed-none (start .args .request) (now (start .args .neighbours)) 0 Nothing (now (start .args .scratch)))
 
-plane-of-requires : tie.Need-plane-of-requires Inv-loop μ-loop
-plane-of-requires c κs = omega arith
+sub-left : tie.Need-sub-left Inv-loop μ-loop
+sub-left c = omega arith
 
-is-finite-plane-requires : tie.Need-is-finite-plane-requires Inv-loop μ-loop
-is-finite-plane-requires c κs = search needs
+write-group-requires : tie.Need-write-group-requires Inv-loop μ-loop
+write-group-requires c κs =
+    let at = c .before .before .before in
+    let size = sized (c .before) in
+    (omega (arith, at .loop .inv .1 .same-length, at .before .before .before .pre), size .0, size .1, size .2)
+
+enum-known-found : tie.Need-enum-known-found Inv-loop μ-loop
+enum-known-found c = search needs
+
+enum-known-neighbour : tie.Need-enum-known-neighbour Inv-loop μ-loop
+enum-known-neighbour c = search needs
 
 same-length : tie.Need-same-length Inv-loop μ-loop
-same-length c = c .before .before .before .before .loop .inv .1
+same-length c = one-further (c .before .before .before) .same-length
 
 returns : tie.Need-returns Inv-loop μ-loop
 returns c =
-    let at = c .before .before .before .before in
+    let further = c .before .before .before in
+    let chosen = further .before .before .before .before in
+    let at = chosen .before .before in
     let start = at .before .before .before in
     let request = start .args .request in
     let neighbours = now (start .args .neighbours) in
-    let unseen = firstBad isUnseen 0 (unseenFrom request (length neighbours / 8) neighbours) in
-    record {
-      same-length = at .loop .inv .1;
-      made = ap (λ (found : Found). madeOf found unseen) (sym (found-here (planeIn request) badPlane _ (at .loop .index) neighbours (c .before .before .before .loop-test .taken) (ap not (finite-is (c .before) ∙ not-true _ (c .if1 .taken)))) ∙ at .loop .inv .3);
-      stands = λ first e. not-both e;
-    }
-
-write-plane-requires : tie.Need-write-plane-requires Inv-loop μ-loop
-write-plane-requires c κs = search needs
-
-noted-requires : tie.Need-noted-requires Inv-loop μ-loop
-noted-requires c κs = search needs
+    let passed = at .loop .index + chosen .if1 .size in
+    let left = length neighbours / 8 - passed in
+    let all : passed + left ≡ length neighbours / 8 = omega (arith, sized chosen) in
+    rw all at (passed-stopped request neighbours left (rw (c .before .neighbour .given .1) at (one-further further)) .further (now (start .args .scratch)) (written-none request neighbours (now (start .args .scratch))))
 
 add-index : tie.Need-add-index Inv-loop μ-loop
-add-index c = omega arith
+add-index c = omega (arith, sized (c .before .before .before .before .before .before .before .before))
 
 loop-less : tie.Need-loop-less Inv-loop μ-loop
-loop-less c = omega arith
+loop-less c = omega (arith, sized (c .before .before .before .before .before .before .before .before))
 
 loop-again : tie.Need-loop-again Inv-loop μ-loop
 loop-again c =
-    let called = c .before .before .before in
-    let tested = called .before .before .before in
-    let at = tested .before .before .before in
-    let start = at .before .before .before in
-    let request = start .args .request in
-    let neighbours = now (start .args .neighbours) in
-    let i = at .loop .index in
-    let xs = now (start .args .scratch) in
-    let made = tested .before .plane-of .result in
-    let plane = planeIn request (drop (8 * i) neighbours) in
-    let inside = tested .before .before .loop-test .taken in (
-      omega arith,
-      ap length (called .write-plane .ensures ∙ with-room (at .loop .scratch) i (made .plane) (omega (arith, at .loop .inv .1, start .pre))) ∙ written-length (at .loop .scratch) (6 * i) (made .plane) ∙ at .loop .inv .1,
-      called .write-plane .ensures
-          ∙ ap (λ (p : NeighbourPlane). withPlane (at .loop .scratch) i (p .plane)) (tested .before .plane-of .ensures)
-          ∙ ap (λ (ys : List Float). withPlane ys i plane) (at .loop .inv .2)
-          ∙ written-next (planesFrom request i neighbours) i xs plane (from-length (planeIn request) i neighbours) (omega (arith, start .pre))
-          ∙ ap (λ (ps : List Plane). numbersOfPlanes ps ++ drop (6 * (i + 1)) xs) (sym (from-more (planeIn request) i neighbours)),
-      sym (found-later (planeIn request) badPlane _ i neighbours inside (ap not (finite-is tested ∙ not-false _ (called .before .before .if1 .left)))) ∙ at .loop .inv .3,
-      ap (λ (found : Found). orElse found (firstBad isUnseen (i + 1) (fromOn (unseenIn request) (length neighbours / 8) (i + 1) neighbours))) (c .noted .ensures)
-          ∙ noted-on (unseenIn request) _ i neighbours (at .loop .unseen) (made .unseen) inside (sym (ap (λ (p : NeighbourPlane). p .unseen) (tested .before .plane-of .ensures)))
-          ∙ at .loop .inv .4,
-    )
+    let further = c .before .before .before .before in
+    (omega (arith, sized (further .before .before .before .before)), rw (c .before .before .found .given .1) at (one-further further))
 
 same-length-2 : tie.Need-same-length-2 Inv-loop μ-loop
-same-length-2 c = c .before .loop .inv .1
+same-length-2 c = c .before .loop .inv .1 .same-length
 
 returns-2 : tie.Need-returns-2 Inv-loop μ-loop
 returns-2 c =
     let at = c .before in
     let start = at .before .before .before in
-    let request = start .args .request in
-    let neighbours = now (start .args .neighbours) in
-    let xs = now (start .args .scratch) in
-    let all : at .loop .index ≡ length neighbours / 8 = omega arith in
-    let unseen = firstBad isUnseen 0 (unseenFrom request (length neighbours / 8) neighbours) in
-    let finite = sym (found-none (planeIn request) badPlane _ (at .loop .index) neighbours (c .loop-test .left)) ∙ at .loop .inv .3 in
-    let first = sym (or-nothing (at .loop .unseen)) ∙ ap (orElse (at .loop .unseen)) (sym (found-none (unseenIn request) isUnseen _ (at .loop .index) neighbours (c .loop-test .left))) ∙ at .loop .inv .4 in
-    record {
-      same-length = at .loop .inv .1;
-      made = ap Finite first ∙ ap (λ (found : Found). madeOf found unseen) finite;
-      stands = λ f e. at .loop .inv .2 ∙ ap (λ (k : ℕ). numbersOfPlanes (planesFrom request k neighbours) ++ drop (6 * k) xs) all;
-    }
+    let all : at .loop .index ≡ length (now (start .args .neighbours)) / 8 = omega arith in
+    rw all at (at .loop .inv .1 .further (now (start .args .scratch)) (written-none (start .args .request) (now (start .args .neighbours)) (now (start .args .scratch))))
 
 pub write-planes-spec : {M : Type 1} → statement M
 write-planes-spec =
@@ -153,12 +107,12 @@ write-planes-spec =
     Inv-loop
     μ-loop
     loop-holds
-    plane-of-requires
-    is-finite-plane-requires
+    sub-left
+    write-group-requires
+    enum-known-found
+    enum-known-neighbour
     same-length
     returns
-    write-plane-requires
-    noted-requires
     add-index
     loop-less
     loop-again

@@ -2,9 +2,9 @@
 use mathlib.Core.Path.{_≡_, refl, sym, ap, _∙_, subst, subst₂}
 use mathlib.Core.Logic.{⊎-elim}
 use Prim.Native.Nat.{ℕ, zero, suc, _+_, _-_, _*_, _/_, _%_, _^_, _≤_, _<_}
-use native.Mathlib.Nat.{pow-suc, mul-div-cancel, mod-eq-of-lt, lt-irrefl, one-le-pow, zero-lt-suc}
+use native.Mathlib.Nat.{mod-eq-of-lt}
 use native.Mathlib.Omega.{arith}
-use Rattle.vectors.proofs.root.Digits.{Digits, digits-none, digit-left, digit-taken, rounded-up, rounded-down}
+use Rattle.vectors.proofs.root.Digits.{Digits, digits-none, digit-left, digit-taken, next-place, no-place, few-digits, rounded-is}
 use Rattle.vectors.proofs.root.nearest_root.Statement.{statement}
 use Rattle.vectors.proofs.root.nearest_root.Tie as tie
 
@@ -22,36 +22,30 @@ abbrev μ-loop : tie.MeasureT-loop
 One : (m rest twice digit : ℕ) → Type 0
 One m rest twice digit = (k : ℕ) × (k < 24) × (digit ≡ 2 ^ k) × Digits (m * 2 ^ 23) (suc k) rest twice
 
-half-power : (k : ℕ) → 2 ^ suc k / 2 ≡ 2 ^ k
-half-power k = ap (λ (x : ℕ). x / 2) (pow-suc 2 k) ∙ mul-div-cancel (2 ^ k) (zero-lt-suc 1)
-
 one-of : (m rest twice digit : ℕ) → 0 < digit → ToCome m rest twice digit → One m rest twice digit
 unfolding One
-one-of m rest twice digit some (zero, few, is, d) = absurd (lt-irrefl 0 (subst (λ (x : ℕ). 0 < x) is some))
-one-of m rest twice digit some (suc k, few, is, d) = (k, few, is ∙ half-power k, d)
+one-of m rest twice digit some (j, few, is, d) =
+    let next = next-place j digit is some in
+    (next .0, subst (λ (n : ℕ). n ≤ 24) (next .1) few, next .2, subst (λ (n : ℕ). Digits (m * 2 ^ 23) n rest twice) (next .1) d)
 
 none-of : (m rest twice digit : ℕ) → digit ≤ 0 → ToCome m rest twice digit → Digits (m * 2 ^ 23) 0 rest twice
-none-of m rest twice digit none (zero, few, is, d) = d
-none-of m rest twice digit none (suc k, few, is, d) = absurd (omega (arith, is ∙ half-power k, one-le-pow k 2 (zero-lt-suc 1)))
+none-of m rest twice digit none (j, few, is, d) = subst (λ (n : ℕ). Digits (m * 2 ^ 23) n rest twice) (no-place j digit is none) d
 
--- In a turn both are far below 2 ^ 32.
-few-digits : (m rest twice digit : ℕ) → One m rest twice digit → (twice + digit + digit ≤ 2 ^ 25) × (rest < 2 ^ 26)
+small : (m rest twice digit : ℕ) → One m rest twice digit → (rest < 2 ^ 26) × (twice + digit + digit ≤ 2 ^ 25)
 unfolding One
-few-digits m rest twice digit (k, few, is, d) =
-    let two : 2 ^ suc k ≡ digit * 2 = pow-suc 2 k ∙ ap (λ (x : ℕ). x * 2) (sym is) in
-    (omega (arith, d .twice-most), omega (arith, d .rest-most, d .twice-most))
+small m rest twice digit (k, few, is, d) = subst (λ (x : ℕ). (rest < 2 ^ 26) × (twice + x + x ≤ 2 ^ 25)) (sym is) (few-digits _ k rest twice d)
 
 turn-left : (m rest twice digit : ℕ) → One m rest twice digit → rest < twice + digit → ToCome m (rest * 2 % 2 ^ 32) twice (digit / 2)
 unfolding One
 turn-left m rest twice digit (k, few, is, d) less =
-    let small = few-digits m rest twice digit (k, few, is, d) in
+    let small = small m rest twice digit (k, few, is, d) in
     let next = digit-left (m * 2 ^ 23) k rest twice few d (subst (λ (x : ℕ). rest < twice + x) is less) in
     (k, omega arith, ap (λ (x : ℕ). x / 2) is, subst (λ (r : ℕ). Digits (m * 2 ^ 23) k r twice) (sym (mod-eq-of-lt (omega (arith, small)))) next)
 
 turn-taken : (m rest twice digit : ℕ) → One m rest twice digit → twice + digit ≤ rest → ToCome m ((rest - (twice + digit)) * 2 % 2 ^ 32) (twice + digit + digit) (digit / 2)
 unfolding One
 turn-taken m rest twice digit (k, few, is, d) enough =
-    let small = few-digits m rest twice digit (k, few, is, d) in
+    let small = small m rest twice digit (k, few, is, d) in
     let next = digit-taken (m * 2 ^ 23) k rest twice few d (subst (λ (x : ℕ). twice + x ≤ rest) is enough) in
     let left : (rest - (twice + digit)) * 2 % 2 ^ 32 ≡ (rest - (twice + digit)) * 2 = mod-eq-of-lt (omega (arith, small)) in (
       k,
@@ -71,10 +65,10 @@ loop-holds : tie.Need-loop-holds Inv-loop μ-loop
 loop-holds c = (24, omega arith, refl, digits-none _ _ (c .pre) refl)
 
 add-trial : tie.Need-add-trial Inv-loop μ-loop
-add-trial c = record { fits = omega (arith, few-digits _ _ _ _ (one c)) }
+add-trial c = record { fits = omega (arith, small _ _ _ _ (one c)) }
 
 add-twice : tie.Need-add-twice Inv-loop μ-loop
-add-twice c = record { fits = omega (arith, few-digits _ _ _ _ (one (c .before))) }
+add-twice c = record { fits = omega (arith, small _ _ _ _ (one (c .before))) }
 
 loop-less : tie.Need-loop-less Inv-loop μ-loop
 loop-less c = omega (arith, c .before .loop-test .taken)
@@ -88,14 +82,11 @@ loop-again c =
     (λ w. subst₂ (λ (r t : ℕ). ToCome m r t (at .digit / 2)) (sym (w .1)) (sym (w .2)) (turn-taken m (at .rest) (at .twice) (at .digit) (one (c .before)) (omega (arith, w .0 .left))))
     (c .if1 .came)
 
-add-result : tie.Need-add-result Inv-loop μ-loop
-add-result c = record { fits = omega (arith, all (c .before) .twice-most) }
+rounded-requires : tie.Need-rounded-requires Inv-loop μ-loop
+rounded-requires c κs = omega (arith, all c .twice-most)
 
 returns : tie.Need-returns Inv-loop μ-loop
-returns c = rounded-up _ _ _ (all (c .before)) (omega (arith, c .if2 .taken))
-
-returns-2 : tie.Need-returns-2 Inv-loop μ-loop
-returns-2 c = rounded-down _ _ _ (all (c .before)) (omega (arith, c .if2 .left))
+returns c = c .rounded .ensures ∙ rounded-is _ _ _ (all (c .before))
 
 pub nearest-root-spec : {M : Type 1} → statement M
 nearest-root-spec =
@@ -108,6 +99,5 @@ nearest-root-spec =
     add-twice
     loop-less
     loop-again
-    add-result
-    returns
-    returns-2)
+    rounded-requires
+    returns)

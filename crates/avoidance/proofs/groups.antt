@@ -1,0 +1,3 @@
+-- Laws on lanes, beside the proofs of the functions of a group.
+pub mod Lanes
+pub mod LanePlane
