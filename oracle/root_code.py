@@ -1,15 +1,18 @@
 #!/usr/bin/env python3
-"""Takes the machine code of a function of the library apart, and counts what is in it.
+"""Takes the machine code of functions of the library apart, and counts what is in it.
 
-    root_code.py OBJDUMP FILE FUNCTION
+    root_code.py OBJDUMP FILE FUNCTION [COUNTED ..]
 
 FILE is an archive or an object, of x86-64 or aarch64 code, and OBJDUMP the command of binutils that reads it. The code is
-that of FUNCTION and of all that it calls; the constants are the memory that this code names.
+that of a function and of all that it calls; the constants are the memory that this code names. A loop is the code from
+where a jump goes back to, to the last jump that goes back there.
 
-The exit status is 1 where an instruction multiplies, divides, takes a square root, or does other arithmetic of floats, and
-where something is called that FILE does not have, or jumped to by a pointer; it is 2 where the code could not be read.
-Comparisons of floats, and work on 64 bits of a general register, are counted only to be known: a sum that is an address is
-not told from another, unless it is of the stack's.
+The exit status is 1 where an instruction of FUNCTION multiplies, divides, takes a square root, or does other arithmetic of
+floats, and where it calls something that FILE does not have, or jumps by a pointer; it is 2 where the code could not be
+read. In a COUNTED function all that is only counted: plain x86-64 has no instruction that shifts each lane of a vector by a
+count of its own, and the compiler may multiply by a power of two instead. Comparisons of floats, and work on 64 bits of a
+general register or on vectors of integers, are counted only to be known: a sum that is an address is not told from another,
+unless it is of the stack's.
 """
 import collections
 import re
@@ -50,6 +53,13 @@ WIDE = re.compile(r"%r([a-d]x|[sd]i|bp|\d+)\b|\bx\d+\b")
 MEMORY = re.compile(r"\([^)]*\)|\[[^]]*\]")
 # An address of the stack or of the code, worked out by an instruction that also adds.
 ADDRESS = re.compile(r"%[re]?[si]p\b|\bsp\b")
+# What works out something on a vector of integers: x86-64 says so by the name, and aarch64 by an operand.
+PACKED = re.compile(r"v?p(add|sub|cmp|and|or|xor|sll|srl|sra|mul|madd|min|max|abs|sign|avg|sadbw|blend)\w*")
+VECTOR = re.compile(r"\bv\d+\.\d+[bhsd]\b")
+# But not these of aarch64's: floats, and what only moves lanes.
+UNPACKED = re.compile(r"(f|mov|mvni|[su]mov|dup|ins|ext|zip|uzp|trn|tb[lx]|ld|st|[su]?q?xtu?n|[su]xtl|[su]cvtf)\w*")
+# A jump that stays in the function.
+JUMP = re.compile(r"j\w+|b(\.\w+)?|[ct]bn?z")
 
 MEMBER = re.compile(r"(\S+):\s+file format \S+$")
 SECTION = re.compile(r"\s*\d+ (\S+)\s+([0-9a-f]{8,}) (.*)$")
@@ -69,11 +79,26 @@ class Instruction:
         self.mnemonic, self.operands = (text.split(None, 1) + [""])[:2]
         self.relocations = []
 
+    def kind(self):
+        """The first of the kinds that it is of, or None."""
+        return next((kind for kind, pattern in KINDS.items() if pattern.fullmatch(self.mnemonic)), None)
+
     def is_wide(self):
         """Whether it works on 64 bits of a general register."""
         if MOVE.fullmatch(self.mnemonic) or ADDRESS.search(self.operands) or self.relocations:
             return False
         return bool(WIDE.search(MEMORY.sub("", self.operands)))
+
+    def is_on_vectors(self):
+        """Whether it works on a vector of integers."""
+        if PACKED.fullmatch(self.mnemonic):
+            return True
+        return bool(VECTOR.search(self.operands)) and not UNPACKED.fullmatch(self.mnemonic)
+
+    def target(self):
+        """The place in its section that it jumps to or calls, or None."""
+        near = NEAR.search(self.operands)
+        return int(near[1], 16) if near and not self.relocations else None
 
 
 def stop(why):
@@ -141,6 +166,17 @@ class Code:
         return None
 
 
+def loops(instructions):
+    """The instructions of each loop of a function."""
+    ends = {}
+    for instruction in instructions:
+        target = instruction.target()
+        if JUMP.fullmatch(instruction.mnemonic) and target is not None:
+            if instructions[0].address <= target <= instruction.address:
+                ends[target] = instruction.address
+    return [[one for one in instructions if head <= one.address <= end] for head, end in sorted(ends.items())]
+
+
 class Taken:
     """A function, and what it reaches."""
 
@@ -149,6 +185,7 @@ class Taken:
         self.functions = {}  # (place, name): size
         self.constants = {}  # (place, section, start): size
         self.instructions = []
+        self.loops = []  # [[Instruction]]
         self.outside = set()
         if name not in code.shared:
             stop(f"{code.file} has no function {name}")
@@ -160,11 +197,11 @@ class Taken:
             return
         self.functions[place, name] = symbol.size
         listed = self.code.instructions[place, symbol.section]
-        for i, instruction in enumerate(listed):
-            if not 0 <= instruction.address - symbol.start < symbol.size:
-                continue
-            self.instructions.append(instruction)
-            after = listed[i + 1].address if i + 1 < len(listed) else self.code.sections[place, symbol.section][0]
+        own = [one for one in listed if 0 <= one.address - symbol.start < symbol.size]
+        self.instructions += own
+        self.loops += loops(own)
+        ends = [one.address for one in own[1:]] + [symbol.start + symbol.size]
+        for instruction, after in zip(own, ends):
             for relocation in instruction.relocations:
                 self.follow(place, after, *relocation)
             if not instruction.relocations:
@@ -175,9 +212,9 @@ class Taken:
         mnemonic, operands = instruction.mnemonic, instruction.operands
         if re.match(r"blr|br$", mnemonic) or operands.startswith("*"):
             self.outside.add(f"what {mnemonic} {operands} points to")
-        near = NEAR.search(operands)
-        if near and not 0 <= int(near[1], 16) - symbol.start < symbol.size:
-            name = self.code.function_at(place, symbol.section, int(near[1], 16))
+        target = instruction.target()
+        if target is not None and not 0 <= target - symbol.start < symbol.size:
+            name = self.code.function_at(place, symbol.section, target)
             if name is None:
                 stop(f"{mnemonic} {operands} leads out of every function")
             self.take(place, name)
@@ -207,38 +244,55 @@ class Taken:
             self.constants[symbol.place, symbol.section, 0] = size
 
 
+def mnemonics(instructions, wanted):
+    """How often which of the instructions are as wanted."""
+    return collections.Counter(one.mnemonic for one in instructions if wanted(one))
+
+
+def of_kind(instructions, kind):
+    return mnemonics(instructions, lambda one: one.kind() == kind)
+
+
 def counted(found):
     """A count, and what it is made of."""
     made = ", ".join(f"{count} {name}" for name, count in sorted(found.items()))
     return f"{sum(found.values())} ({made})" if found else "0"
 
 
-def main():
-    if len(sys.argv) != 4:
-        stop("it takes OBJDUMP FILE FUNCTION")
-    objdump, file, name = sys.argv[1:]
-    taken = Taken(Code(objdump, file), name)
-    kinds = {kind: collections.Counter() for kind in KINDS}
-    wide = collections.Counter()
-    for instruction in taken.instructions:
-        for kind, pattern in KINDS.items():
-            if pattern.fullmatch(instruction.mnemonic):
-                kinds[kind][instruction.mnemonic] += 1
-                break
-        if instruction.is_wide():
-            wide[instruction.mnemonic] += 1
-
+def report(name, taken):
+    """Prints what the function is made of."""
+    instructions = taken.instructions
     code, constants = sum(taken.functions.values()), sum(taken.constants.values())
-    print(f"{name}: {len(taken.instructions)} instructions, {code} bytes of code, {constants} bytes of constants")
-    print(f"    functions:                  {', '.join(function for _, function in taken.functions)}")
-    for kind, found in kinds.items():
-        print(f"    {kind + ':':<28}{counted(found)}")
-    print(f"    on 64 bits of a register:   {counted(wide)}")
-    faults = [f"{kind}: {', '.join(sorted(kinds[kind]))}" for kind in FORBIDDEN if kinds[kind]]
+    print(f"{name}: {len(instructions)} instructions, {code} bytes of code, {constants} bytes of constants")
+    lines = {"functions": ", ".join(function for _, function in taken.functions)}
     if taken.outside:
-        faults.append(f"not in the file: {', '.join(sorted(taken.outside))}")
+        lines["not in the file"] = ", ".join(sorted(taken.outside))
+    for kind in KINDS:
+        lines[kind] = counted(of_kind(instructions, kind))
+    lines["on 64 bits of a register"] = counted(mnemonics(instructions, Instruction.is_wide))
+    lines["on vectors of integers"] = counted(mnemonics(instructions, Instruction.is_on_vectors))
+    for what, line in lines.items():
+        print(f"    {what + ':':<28}{line}")
+    for loop in taken.loops:
+        vectors, products = mnemonics(loop, Instruction.is_on_vectors), of_kind(loop, "multiply")
+        print(f"    a loop of {len(loop)} instructions: {sum(vectors.values())} on vectors of integers, "
+              f"{sum(products.values())} multiply")
+
+
+def main():
+    if len(sys.argv) < 4:
+        stop("it takes OBJDUMP FILE FUNCTION [COUNTED ..]")
+    objdump, file, *names = sys.argv[1:]
+    code = Code(objdump, file)
+    taken = [Taken(code, name) for name in names]
+    for name, one in zip(names, taken):
+        report(name, one)
+    ruled = taken[0]
+    found = {kind: of_kind(ruled.instructions, kind) for kind in FORBIDDEN}
+    found["not in the file"] = ruled.outside
+    faults = [f"{what}: {', '.join(sorted(which))}" for what, which in found.items() if which]
     for fault in faults:
-        print(f"What may not be in it: {fault}")
+        print(f"What may not be in {names[0]}: {fault}")
     return 1 if faults else 0
 
 

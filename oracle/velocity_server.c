@@ -1,18 +1,26 @@
 /*
- * Makes calls of guineacrumb_velocity for a program that can't link the library: it is x86-64 code, and
- * this server runs under an emulator where the machine is another.
+ * Makes calls of guineacrumb_velocity and guineacrumb_tick for a program that can't link the library: it is x86-64
+ * code, and this server runs under an emulator where the machine is another.
  *
  * It reads batches from standard input until that ends, and writes what comes of each to standard output
  * once it has read the batch whole. All is words of 4 bytes, least byte first:
  *
- *     a batch    its kind (1 calls, 2 times), passes, the number of calls, then each call
+ *     a batch    its kind (1 calls, 2 times, 3 flights, 4 times of flights), passes, the number of calls or
+ *                flights, then each
  *     a call     the lengths of request, neighbours, scratch and velocity, then the numbers of each
  *     a reply    to a batch of calls, for each: the answer, whether anything was written that was not lent
  *                to be written, place, relaxed plane and unseen neighbour (two words each), scratch, velocity
- *     a time     to a batch of times: nanoseconds for so many passes over the calls (two words)
+ *     a flight   how many ticks it has, the number of words of its fleet file, then the words
+ *     a reply    to a batch of flights, for each: the answer of the last tick that was made, and the words of the
+ *                file after it
+ *     a time     to a batch of times: nanoseconds for so many passes over the calls or flights (two words)
  *
  * Timed calls share one scratch, which is not cleared between them, and have their request and neighbours
  * where they were read to.
+ *
+ * A flight is calls of guineacrumb_tick one after another, each on the bytes that the one before left, of 0.5 by the
+ * source rule, which is the published Rust's. It begins with its file copied from where it was read to, which is timed
+ * with it, and a tick that is refused ends it.
  *
  * The exit status is 0 where the input ended after a batch.
  */
@@ -25,7 +33,7 @@
 
 #include "guineacrumb.h"
 
-enum { CALLS = 1, TIMES = 2 };
+enum { CALLS = 1, TIMES = 2, FLIGHTS = 3, FLIGHT_TIMES = 4 };
 
 /* What is lent to a call, in this order. */
 enum { REQUEST, NEIGHBOURS, SCRATCH, VELOCITY, LENT };
@@ -49,6 +57,12 @@ struct words {
 struct call {
     size_t start[LENT];
     uint32_t length[LENT];
+};
+
+/* One flight: where in the batch's words its file begins, and how many words it has. */
+struct flight {
+    size_t start;
+    uint32_t ticks, length;
 };
 
 static void stop(const char *why) {
@@ -160,28 +174,97 @@ static uint64_t time_of(struct words *memory, struct call *calls, size_t count, 
     return end - start;
 }
 
+static struct flight read_flight(struct words *memory) {
+    struct flight flight;
+    uint32_t head[2];
+    must_read(head, 2);
+    flight.ticks = head[0];
+    flight.length = head[1];
+    if (flight.length > GUINEACRUMB_RECORD_WORDS * GUINEACRUMB_MOST_AGENTS)
+        stop("a fleet file of over 64 records");
+    must_read(extend(memory, flight.length), flight.length);
+    flight.start = memory->length - flight.length;
+    return flight;
+}
+
+/* Flies a copy of the flight's file, and returns the answer of the last tick. */
+static uint32_t fly(const struct words *memory, const struct flight *flight, uint32_t *file) {
+    uint32_t answer = GUINEACRUMB_DONE;
+    uint64_t place;
+    size_t length = flight->length * sizeof *file;
+    memcpy(file, memory->at + flight->start, length);
+    for (uint32_t tick = 0; tick < flight->ticks && answer == GUINEACRUMB_DONE; tick++)
+        answer = guineacrumb_tick((uint8_t *)file, length, 0.5f, GUINEACRUMB_RULE_SOURCE, &place);
+    return answer;
+}
+
+static uint64_t time_of_flights(const struct words *memory, const struct flight *flights, size_t count,
+                                uint32_t passes, uint32_t *file) {
+    uint32_t mixed = 0;
+    uint64_t start = now();
+    for (uint32_t pass = 0; pass < passes; pass++)
+        for (size_t i = 0; i < count; i++)
+            mixed ^= fly(memory, &flights[i], file);
+    uint64_t end = now();
+    sink = mixed;
+    return end - start;
+}
+
+/* Reads the calls of a batch, and makes them. */
+static void make_calls(uint32_t kind, uint32_t passes, uint32_t count, struct words *replies) {
+    static struct words memory, before;
+    static struct call *calls;
+    memory.length = before.length = 0;
+    calls = realloc(calls, (count + 1) * sizeof *calls);
+    if (calls == NULL)
+        stop("no memory");
+    for (uint32_t i = 0; i < count; i++)
+        calls[i] = read_call(&memory);
+    append(&before, memory.at, memory.length);
+    if (kind == CALLS) {
+        for (uint32_t i = 0; i < count; i++)
+            reply(&memory, &before, &calls[i], replies);
+    } else {
+        uint64_t time = time_of(&memory, calls, count, passes);
+        append(replies, &time, 2);
+    }
+}
+
+/* Reads the flights of a batch, and makes them. */
+static void make_flights(uint32_t kind, uint32_t passes, uint32_t count, struct words *replies) {
+    static struct words memory;
+    static struct flight *flights;
+    uint32_t file[GUINEACRUMB_RECORD_WORDS * GUINEACRUMB_MOST_AGENTS];
+    memory.length = 0;
+    flights = realloc(flights, (count + 1) * sizeof *flights);
+    if (flights == NULL)
+        stop("no memory");
+    for (uint32_t i = 0; i < count; i++)
+        flights[i] = read_flight(&memory);
+    if (kind == FLIGHTS) {
+        for (uint32_t i = 0; i < count; i++) {
+            uint32_t answer = fly(&memory, &flights[i], file);
+            append(replies, &answer, 1);
+            append(replies, file, flights[i].length);
+        }
+    } else {
+        uint64_t time = time_of_flights(&memory, flights, count, passes, file);
+        append(replies, &time, 2);
+    }
+}
+
 int main(void) {
-    struct words memory = {0}, before = {0}, replies = {0};
-    struct call *calls = NULL;
+    struct words replies = {0};
     uint32_t head[3];
     while (read_words(head, 3)) {
         uint32_t kind = head[0], passes = head[1], count = head[2];
-        memory.length = before.length = replies.length = 0;
-        calls = realloc(calls, (count + 1) * sizeof *calls);
-        if (calls == NULL)
-            stop("no memory");
-        for (uint32_t i = 0; i < count; i++)
-            calls[i] = read_call(&memory);
-        append(&before, memory.at, memory.length);
-        if (kind == CALLS) {
-            for (uint32_t i = 0; i < count; i++)
-                reply(&memory, &before, &calls[i], &replies);
-        } else if (kind == TIMES) {
-            uint64_t time = time_of(&memory, calls, count, passes);
-            append(&replies, &time, 2);
-        } else {
+        replies.length = 0;
+        if (kind == CALLS || kind == TIMES)
+            make_calls(kind, passes, count, &replies);
+        else if (kind == FLIGHTS || kind == FLIGHT_TIMES)
+            make_flights(kind, passes, count, &replies);
+        else
             stop("an unknown kind of batch");
-        }
         fwrite(replies.at, sizeof *replies.at, replies.length, stdout);
         if (fflush(stdout) != 0)
             stop("the output could not be written");

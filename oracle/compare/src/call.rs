@@ -1,7 +1,7 @@
-//! A call of the published function, made ready, and the time of many. The two copies of the published files that are
-//! timed have each its own types, of the same names: so this is a macro, for a module of each.
+//! What the published files take, made from numbers: an agent, its parameters, and a call, with the time of many. The two
+//! copies of them that are timed have each its own types, of the same names: so this is a macro, for a module of each.
 
-/// The calls of one copy of dodgy_3d, given by its name as a crate.
+/// The agents and calls of one copy of dodgy_3d, given by its name as a crate.
 macro_rules! call_of {
     ($dodgy:ident) => {
         pub fn vector(numbers: &[f32]) -> $dodgy::Vec3 {
@@ -14,6 +14,21 @@ macro_rules! call_of {
                 velocity: vector(&numbers[3..6]),
                 radius: numbers[$crate::case::RADIUS],
                 avoidance_responsibility: numbers[$crate::case::RESPONSIBILITY],
+            }
+        }
+
+        /// What the Simulator is told of a stored agent.
+        pub fn parameters(record: &$crate::record::Record) -> $dodgy::AgentParameters {
+            use $crate::record::{DISTANCE, GOAL, HORIZON, MARGIN, MAX_SPEED, OBSTACLE_HORIZON};
+            $dodgy::AgentParameters {
+                goal_point: vector(&record.numbers::<3>(GOAL)),
+                max_speed: record.number(MAX_SPEED),
+                obstacle_margin: match record.words[MARGIN] {
+                    0 => $dodgy::SimulatorMargin::AgentRadius,
+                    _ => $dodgy::SimulatorMargin::Distance(record.number(DISTANCE)),
+                },
+                time_horizon: record.number(HORIZON),
+                obstacle_time_horizon: record.number(OBSTACLE_HORIZON),
             }
         }
 

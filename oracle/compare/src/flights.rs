@@ -100,6 +100,12 @@ pub fn draw_file(seed: u64, index: u64) -> (Kind, Vec<u8>) {
     (field.kind, file)
 }
 
+/// A fleet of that kind and size.
+pub fn draw_fleet(seed: u64, index: u64, kind: Kind, count: usize) -> Vec<Record> {
+    let random = Random::of(seed, index);
+    Field::sized(&random, kind, count).records(&random, count)
+}
+
 fn any_kind(random: &Random, index: u64) -> Kind {
     if index % PILES == PILES - 1 {
         Kind::Pile
@@ -138,7 +144,10 @@ struct Field {
 
 impl Field {
     fn of(random: &Random, kind: Kind) -> Field {
-        let count = count(random);
+        Field::sized(random, kind, count(random))
+    }
+
+    fn sized(random: &Random, kind: Kind, count: usize) -> Field {
         let narrow = [random.between(0.3, 1.5) * ((count + 1) as f32).cbrt(); 3];
         let crowd = Field {
             kind,

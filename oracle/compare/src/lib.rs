@@ -34,3 +34,4 @@ pub mod simulated;
 pub mod spacing;
 pub mod spacing_report;
 pub mod stored;
+pub mod times;

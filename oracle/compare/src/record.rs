@@ -1,8 +1,8 @@
 //! A stored agent: document 01's 19 words.
-use dodgy_3d::{Agent, AgentParameters, SimulatorMargin, Vec3};
+use dodgy_3d::{Agent, AgentParameters, Vec3};
 
 use crate::case::{AGENT, RADIUS, RESPONSIBILITY};
-use crate::published::{agent, is_direction, vector};
+use crate::published::{agent, is_direction, parameters, vector};
 
 /// The words of a record.
 pub const WORDS: usize = 19;
@@ -103,16 +103,7 @@ impl Record {
     }
 
     pub fn parameters(&self) -> AgentParameters {
-        AgentParameters {
-            goal_point: self.goal(),
-            max_speed: self.number(MAX_SPEED),
-            obstacle_margin: match self.words[MARGIN] {
-                0 => SimulatorMargin::AgentRadius,
-                _ => SimulatorMargin::Distance(self.number(DISTANCE)),
-            },
-            time_horizon: self.number(HORIZON),
-            obstacle_time_horizon: self.number(OBSTACLE_HORIZON),
-        }
+        parameters(self)
     }
 
     /// The words as replay prints them.

@@ -4,9 +4,12 @@ use std::io::{self, BufReader, BufWriter, Read, Write};
 use std::process::{Child, ChildStdin, ChildStdout, Command, Stdio};
 
 use crate::case::{Case, Reply};
+use crate::file::{little_endian, words};
 
 const CALL: u32 = 1;
 const TIME: u32 = 2;
+const FLY: u32 = 3;
+const TIME_FLIGHTS: u32 = 4;
 
 pub struct Server {
     child: Child,
@@ -56,6 +59,24 @@ impl Server {
         self.long()
     }
 
+    /// What so many ticks by the source rule make of each fleet file: the answer of the last tick, and the file after it.
+    pub fn fly(&mut self, files: &[Vec<u8>], ticks: u32) -> io::Result<Vec<(u32, Vec<u8>)>> {
+        self.flights(FLY, 1, files, ticks)?;
+        files
+            .iter()
+            .map(|file| {
+                let answer = self.word()?;
+                Ok((answer, little_endian(&self.words(file.len() / 4)?)))
+            })
+            .collect()
+    }
+
+    /// Nanoseconds for so many passes over the fleet files, each flown from its start every time.
+    pub fn time_flights(&mut self, files: &[Vec<u8>], ticks: u32, passes: u32) -> io::Result<u64> {
+        self.flights(TIME_FLIGHTS, passes, files, ticks)?;
+        self.long()
+    }
+
     /// Ends it, and says whether it ended well.
     pub fn stop(mut self) -> io::Result<bool> {
         self.to = None;
@@ -81,12 +102,24 @@ impl Server {
             words.extend(request.iter().chain(neighbours).map(|x| x.to_bits()));
             words.extend(scratch.iter().chain(velocity));
         }
-        let bytes: Vec<u8> = words.iter().flat_map(|word| word.to_le_bytes()).collect();
+        self.write(&words)
+    }
+
+    fn flights(&mut self, kind: u32, passes: u32, files: &[Vec<u8>], ticks: u32) -> io::Result<()> {
+        let mut sent = vec![kind, passes, files.len() as u32];
+        for file in files {
+            sent.extend([ticks, (file.len() / 4) as u32]);
+            sent.extend(words(file));
+        }
+        self.write(&sent)
+    }
+
+    fn write(&mut self, words: &[u32]) -> io::Result<()> {
         let to = self
             .to
             .as_mut()
             .expect("it stays until the server is stopped");
-        to.write_all(&bytes)?;
+        to.write_all(&little_endian(words))?;
         to.flush()
     }
 
@@ -123,7 +156,6 @@ impl Server {
     fn words(&mut self, count: usize) -> io::Result<Vec<u32>> {
         let mut bytes = vec![0; 4 * count];
         self.from.read_exact(&mut bytes)?;
-        let word = |four: &[u8]| u32::from_le_bytes(four.try_into().expect("four bytes"));
-        Ok(bytes.chunks_exact(4).map(word).collect())
+        Ok(words(&bytes))
     }
 }

@@ -15,15 +15,12 @@ use compare::case::*;
 use compare::inputs::{draw_of, Kind};
 use compare::published::{catch_quietly, expected, Expected};
 use compare::server::Server;
+use compare::times::{columns, heading, Side, ROUNDS};
 use compare::{by_digits, published};
 
 const COUNTS: [usize; 5] = [1, 8, 16, 32, 63];
 /// The different inputs of a line.
 const INPUTS: usize = 64;
-/// How often each side is timed; the medians are printed.
-const ROUNDS: usize = 9;
-/// How long a timing takes, at least, in nanoseconds.
-const LONG_ENOUGH: u64 = 20_000_000;
 /// Of so many patterns one has its root compared.
 const STEP: usize = 4099;
 
@@ -53,18 +50,10 @@ fn inputs(seed: u64, setting: Setting, count: usize) -> Vec<Case> {
     cases.filter(fits).take(INPUTS).collect()
 }
 
-fn median(mut times: Vec<f64>) -> f64 {
-    times.sort_by(f64::total_cmp);
-    times[times.len() / 2]
-}
-
 fn bench(seed: u64, server: &mut Server) -> io::Result<()> {
     let different = digits::first_difference(STEP);
     assert_eq!(different, None, "a number with another root than sqrt's");
-    println!(
-        "{:>9} {:>3} {:>11} {:>11} {:>6} {:>11} {:>6}",
-        "setting", "n", "ours ns", "Rust ns", "ratio", "digits ns", "ratio"
-    );
+    println!("{:>9} {:>3} {}", "setting", "n", heading());
     for setting in [Setting::Sparse, Setting::Crowded] {
         for count in COUNTS {
             let cases = inputs(seed, setting, count);
@@ -73,31 +62,19 @@ fn bench(seed: u64, server: &mut Server) -> io::Result<()> {
             for (one, other) in plain.iter().zip(&without) {
                 assert_eq!(one.answer(), other.answer(), "answers of the two Rusts");
             }
-            let once = server
-                .time(&cases, 1)?
-                .min(published::time(&plain, 1))
-                .max(1);
-            let passes = (LONG_ENOUGH / once).clamp(1, 100_000) as u32;
-            let each = f64::from(passes) * cases.len() as f64;
-            let (mut ours, mut rusts, mut digits) = (vec![], vec![], vec![]);
-            for _ in 0..ROUNDS {
-                ours.push(server.time(&cases, passes)? as f64 / each);
-                rusts.push(published::time(&plain, passes) as f64 / each);
-                digits.push(by_digits::time(&without, passes) as f64 / each);
-            }
-            let ratio = |to: &[f64]| median(ours.iter().zip(to).map(|(our, x)| our / x).collect());
+            let sides: [Side; 3] = [
+                &mut |passes| server.time(&cases, passes),
+                &mut |passes| Ok(published::time(&plain, passes)),
+                &mut |passes| Ok(by_digits::time(&without, passes)),
+            ];
             println!(
-                "{:>9} {count:>3} {:>11.1} {:>11.1} {:>6.2} {:>11.1} {:>6.2}",
+                "{:>9} {count:>3} {}",
                 format!("{setting:?}").to_lowercase(),
-                median(ours.clone()),
-                median(rusts.clone()),
-                ratio(&rusts),
-                median(digits.clone()),
-                ratio(&digits),
+                columns(INPUTS, sides)?
             );
         }
     }
-    println!("(medians of {ROUNDS} timings, in turns, each of many passes over {INPUTS} inputs; ");
+    println!("(medians of {ROUNDS} timings, in turns, each of many passes over {INPUTS} inputs;");
     println!("scratch is not cleared before a call; digits: the Rust, its square roots taken digit by digit;");
     println!("each ratio is that of ours to the column before it)");
     Ok(())

@@ -12,6 +12,7 @@ use std::{env, iter};
 
 use compare::random::Random;
 use compare::spacing::BYTES;
+use compare::times::{median, ROUNDS};
 
 const AGENTS: usize = 64;
 const FRAMES: usize = 200_000;
@@ -19,8 +20,6 @@ const FRAMES: usize = 200_000;
 const LIMIT: u32 = 1500;
 /// Agents are so far from the middle at most, in metres.
 const HALF: [f32; 3] = [20.0, 15.0, 4.0];
-/// How often each side is timed; the medians are printed.
-const ROUNDS: usize = 9;
 
 /// Writes the file, unless it is there already.
 fn prepare(seed: u64, file: &str) -> io::Result<()> {
@@ -49,11 +48,6 @@ fn time(command: &[String], file: &str) -> io::Result<(String, f64)> {
         return Err(io::Error::other(ended));
     }
     Ok((String::from_utf8_lossy(&output.stdout).into(), seconds))
-}
-
-fn median(mut times: Vec<f64>) -> f64 {
-    times.sort_by(f64::total_cmp);
-    times[times.len() / 2]
 }
 
 fn bench(seed: u64, folder: &str, reference: &[String], command: &[String]) -> io::Result<bool> {
