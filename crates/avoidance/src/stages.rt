@@ -1,13 +1,13 @@
-// The plane for a neighbour in three stages, with a square root after the first and another after the second. Eight
-// neighbours go through them side by side (`groups`), and one alone by `plane_for`. The definitions are in
+// The plane for a neighbour in three stages, with a square root after the first and another after the second, for eight
+// neighbours that go through them side by side (`groups`). One alone goes by `plane_for`. The definitions are in
 // `specs/parts/Stages.antt`.
 ghost use mathlib.Core.Path.{_≡_};
-ghost use Rattle.avoidance.specs.Neighbour.{share};
 ghost use Rattle.avoidance.specs.parts.Stages.{discriminant, freeObstacle, obstacleOf, approachOf, firstNumber, isCone, timeWith, directionWith, normalizedWith, vectorOr, onSphereWith, onConeWith, onCollisionWith, projectedWith, planeWith};
 use super::Agent;
 use super::NeighbourPlane;
 use super::neighbour::Projection;
 use super::neighbour::Relation;
+use super::neighbour::share;
 use solver::Plane;
 use vectors::Normalized;
 use vectors::Vec3;
@@ -31,16 +31,7 @@ pub struct Approach {
 
 // ---- the first stage
 
-// What is rooted for the time t at which the relative velocity, moved along the relative position, shows the cone's
-// normal.
-//
-// Past the tangent ring the obstacle is a cone about the relative position p, with its tip at 0 and rays that graze the
-// sphere of the radius sum. Of the triangle that a ray makes with p the leg along the ray has the square
-// |p|^2 - radius sum^2, and the cosine of the cone's half angle is that leg / |p|.
-// The normal next to the relative velocity v lies in the plane of p and v and is square to a ray: it leans away from p
-// by the half angle. Let v + t * p point that way. Its distance from the axis is that of v, |p x v| / |p|, and is also
-// its length times the cosine. So |v + t * p|^2 = |p x v|^2 / leg^2: a * t^2 + 2 * b * t + c = 0, with the 2 factored
-// out of the solution. Of the two solutions the smaller leans away from p.
+// What is rooted for the time t of a cone; `cone_time` says why.
 fn discriminant(relation: Relation) -> f32
     ensures { λ r. ⌜ r ≡ discriminant relation ⌝ }
 {
@@ -251,13 +242,6 @@ fn projection(
             on_collision(relation, time_step, center, direction, length, fallback)
         }
     }
-}
-
-// The part of the way that is ours: all of it outside the obstacle.
-fn share(own: f32, other: f32, inside: bool) -> f32
-    ensures { λ r. ⌜ r ≡ share own other inside ⌝ }
-{
-    if inside { own / (own + other) } else { 1.0 }
 }
 
 // The half-space of velocities that avoid the neighbour, and whether that is unseen, from the direction's length, the

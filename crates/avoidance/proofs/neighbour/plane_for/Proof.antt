@@ -1,44 +1,47 @@
--- The stages with the root between them, by their law.
+-- The half-space's point and normal, an operation at a time: the relation, its projection, our share of the way and the sum.
 use borrow.Author.Needs.{needs}
-use Rattle.avoidance.specs.parts.Stages.{directionOf}
-use Rattle.avoidance.proofs.stages.InStages.{in-stages}
+use Rattle.avoidance.specs.Neighbour.{planeFor, relationOf}
 use Rattle.avoidance.proofs.neighbour.plane_for.Statement.{statement}
 use Rattle.avoidance.proofs.neighbour.plane_for.Tie as tie
 
-approach-of-requires : tie.Need-approach-of-requires
-approach-of-requires c κs = search needs
+sub-requires : tie.Need-sub-requires
+sub-requires c κs = search needs
 
-first-number-requires : tie.Need-first-number-requires
-first-number-requires c κs = search needs
+sub-requires-2 : tie.Need-sub-requires-2
+sub-requires-2 c κs = search needs
 
-root-requires : tie.Need-root-requires
-root-requires c κs = search needs
+projected-requires : tie.Need-projected-requires
+projected-requires c κs = search needs
 
-direction-requires : tie.Need-direction-requires
-direction-requires c κs = search needs
+share-requires : tie.Need-share-requires
+share-requires c κs = search needs
 
-length-requires : tie.Need-length-requires
-length-requires c κs = search needs
+sub-requires-3 : tie.Need-sub-requires-3
+sub-requires-3 c κs = search needs
 
-plane-with-requires : tie.Need-plane-with-requires
-plane-with-requires c κs = search needs
+mul-requires : tie.Need-mul-requires
+mul-requires c κs = search needs
+
+add-requires : tie.Need-add-requires
+add-requires c κs = search needs
 
 returns : tie.Need-returns
-unfolding directionOf
+unfolding planeFor relationOf
 returns c =
     let b3 = c .before .before .before in
-    let args = b3 .before .before .before .args in
-    simp (c .plane-with .ensures, c .before .length .ensures, c .before .before .direction .ensures, b3 .root .ensures, b3 .before .first-number .ensures, b3 .before .before .approach-of .ensures)
-    (in-stages (args .agent) (args .neighbour) (args .horizon) (args .time-step) (args .fallback))
+    let b6 = b3 .before .before .before in
+    let b9 = b6 .before .before .before in
+    simp (← b9 .sub .ensures, ← b6 .before .before .sub2 .ensures, ← b3 .before .before .projected .ensures, ← b3 .before .share .ensures, ← b3 .sub3 .ensures, ← c .before .before .mul .ensures, ← c .add .ensures)
 
 pub plane-for-spec : {M : Type 1} → statement M
 plane-for-spec =
     tie.close
     (tie.spec
-    approach-of-requires
-    first-number-requires
-    root-requires
-    direction-requires
-    length-requires
-    plane-with-requires
+    sub-requires
+    sub-requires-2
+    projected-requires
+    share-requires
+    sub-requires-3
+    mul-requires
+    add-requires
     returns)
