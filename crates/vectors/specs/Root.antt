@@ -39,7 +39,7 @@ unfoldable pub rootOf : ℕ → Float
 unfolding nearestRoot size odd
 rootOf n = let k = (size n - 47) / 2 in odd 24 false (nearestRoot (n / 4 ^ k)) k 149
 
--- A positive finite binary32 has the one root that meets the statement (proofs/root/Nearest.antt: `root-nearest`, `root-only`).
+-- A positive finite binary32 has the one root that meets the statement (`RootNearest`, `RootOnly` in Claims.antt).
 -- Zeros keep their sign; +infinity stays; a negative number and NaN give NaN.
 unfoldable pub root : Float → Float
 unfolding rootOf

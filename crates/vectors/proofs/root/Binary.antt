@@ -2,22 +2,23 @@
 use mathlib.Core.Path.{_≡_, refl, sym, ap, _∙_, subst}
 use mathlib.Core.Bool.{Bool, true, false, cond, true≢false, false≢true}
 use Prim.Native.Nat.{ℕ, zero, suc, _+_, _-_, _*_, _/_, _%_, _^_, _≤_, _<_}
-use native.Mathlib.Nat.{le-trans, le-of-eq, lt-of-lt-of-le, lt-of-not-le, not-le-of-lt, lt-irrefl, mul-le-mul-right, mul-assoc, mul-right-comm, mul-one, zero-mul, pow-suc, one-le-pow, zero-lt-suc, mul-pos, mul-div-cancel, mod-eq-of-lt}
+use native.Mathlib.Nat.{le-trans, le-of-eq, lt-of-lt-of-le, lt-of-not-le, not-le-of-lt, lt-irrefl, mul-le-mul-right, mul-assoc, mul-right-comm, mul-one, zero-mul, pow-suc, one-le-pow, zero-lt-suc, mul-pos, mul-div-cancel, mod-eq-of-lt, eq-of-mul-eq-mul-right}
 use native.Mathlib.Omega.{arith}
 use lib.IntN.{ℤ}
 use lib.Dec.{T, leb, eqb}
 use lib.Pow.{pow-add, pow-pos, pow-mono, shl-lt}
 use lib.Bits.{bitAnd, and-mask}
 use lib.Count.{leadingZeros, leading-top}
-use lib.Ieee.{Float, nan, inf, fin, binary32, up, down, size, odd, lt, div, fits, ofFields, ofBits}
+use lib.Ieee.{Float, nan, inf, fin, binary32, up, down, size, odd, lt, eq, div, fits, ofFields, ofBits}
 use lib.Ieee.Bits.{ofBits-toBits}
 use lib.Ieee.Digits.{size-lt, size-le}
 use lib.Ieee.Exact.{HasValue, odd-sign}
 use lib.Ieee.Fits.{up-pos, down-pos}
-use borrow.Author.Tests.{lt-ltb, le-leb, lt-leb, leb-true, leb-false, ne-eqb}
+use borrow.Author.Tests.{lt-ltb, le-leb, lt-leb, leb-true, leb-false, eqb-true, ne-eqb}
 use Rattle.vectors.specs.Number.{finite, ofWord, toWord, zero as zero32, one, _⊘_}
 use Rattle.vectors.specs.Root.{root, rootOf, nearestRoot}
 use Rattle.vectors.specs.parts.Root.{Parts}
+use Rattle.vectors.proofs.Truth.{both}
 use Rattle.vectors.proofs.root.Whole.{four-pow, nearest-near, near-least, near-most}
 
 -- ---- from the parts of an argument to its root
@@ -268,7 +269,7 @@ positive-word x h above below =
     let back = ofBits-toBits binary32 x h in
     positive-bits (toWord x) (ap (λ (v : Float). lt zero32 v) back ∙ above) (ap (λ (v : Float). lt v (one ⊘ zero32)) back ∙ below)
 
--- ---- a number above zero, by its value
+-- ---- a number above zero, and one that equals it, by its value
 
 pub above-zero : (x : Float) (n d : ℕ) → 0 < n → HasValue x false n d → (lt zero32 x ≡ true) × (finite x ≡ true)
 unfolding lt ofBits finite
@@ -277,3 +278,12 @@ above-zero (inf s) n d h v = absurd v
 above-zero (fin true m e) n d h v = absurd (true≢false (v .0))
 above-zero (fin false m e) n d h v =
     (lt-ltb (0 * 1 * down e) (m * up e * 1) (subst (λ (z : ℕ). z < m * up e * 1) (sym (zero-mul (down e))) (mul-pos (mul-pos (positive m e n d h (v .1)) (up-pos e)) (zero-lt-suc 0))), refl)
+
+pub zero-value : (x : Float) (s : Bool) (n d : ℕ) → HasValue x s n d → eq x zero32 ≡ true → n ≡ 0
+unfolding eq ofBits
+zero-value nan s n d v e = absurd v
+zero-value (inf t) s n d v e = absurd v
+zero-value (fin t m k) s n d v e =
+    let same = eqb-true (m * up k * 1) (0 * down k) (both (eqb (m * up k * 1) (0 * down k)) _ e .0) in
+    let none : m * up k ≡ 0 = sym (mul-one (m * up k)) ∙ same ∙ zero-mul (down k) in
+    eq-of-mul-eq-mul-right (down k) (down-pos k) n 0 (sym (v .1) ∙ ap (λ (z : ℕ). z * d) none ∙ zero-mul d ∙ sym (zero-mul (down k)))

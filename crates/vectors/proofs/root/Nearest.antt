@@ -1,25 +1,22 @@
--- What is proved of the definition `root`, for every binary32.
---     root-nearest     a positive finite argument's root meets document 01's statement
---     root-only        whatever meets the statement is the root: the statement determines the result
---     root-of-zero, root-of-infinity, root-of-negative, root-of-nan     the other arguments
+-- The claims of the root, for every binary32: that of a positive number is the nearest, and no other number is; and those of the other arguments.
 use mathlib.Core.Path.{_≡_, refl, sym, ap, _∙_, subst}
 use mathlib.Core.Bool.{Bool, true, false, not, true≢false, false≢true}
 use Prim.Native.Nat.{ℕ, zero, suc, _+_, _-_, _*_, _/_, _%_, _^_, _≤_, _<_, zero-le}
 use native.Mathlib.Nat.{le-of-lt, lt-of-lt-of-le, mul-pos, mul-div-cancel, zero-mul, one-le-pow, zero-lt-suc}
 use native.Mathlib.Omega.{arith}
-use lib.IntN.{pos}
 use lib.Dec.{T, ltb, ltb→lt, nltb→le}
 use lib.Pow.{pow-pos, pow-mono, shl-lt}
-use lib.Ieee.{Float, nan, inf, fin, binary32, up, down, size, odd, lt, div, fits, ofBits, toBits}
+use lib.Ieee.{Float, nan, inf, fin, binary32, up, down, size, odd, lt, eq, div, fits, ofBits, toBits}
 use lib.Ieee.Bits.{ofBits-toBits}
 use lib.Ieee.Exact.{HasValue, odd-sign}
-use lib.Ieee.Fits.{down-pos, odd-fits}
+use lib.Ieee.Fits.{up-pos, down-pos, odd-fits}
 use borrow.Author.Tests.{le-ltb}
-use Rattle.vectors.specs.Number.{ofWord, toWord, finite, _<ᶠ_, _⊘_, one, zero as zero32}
-use Rattle.vectors.specs.Root.{root, nearestRoot, NearestRoot}
+use Rattle.vectors.specs.Number.{ofWord, toWord, finite, _⊘_, one, zero as zero32}
+use Rattle.vectors.specs.Root.{root, nearestRoot}
+use Rattle.vectors.specs.Claims.{RootNearest, RootOnly, RootOfZero, RootOfInfinity, RootOfNegative, RootOfNan}
 use Rattle.vectors.specs.parts.Root.{Parts}
 use Rattle.vectors.proofs.root.Whole.{nearest-near, nearest-only, near-says, near-of}
-use Rattle.vectors.proofs.root.Binary.{wholePart, halfPower, split-power, whole-bounds, root-bounds, root-parts, root-scaled, positive-word, above-zero, normal-parts, subnormal-parts, shiftOf}
+use Rattle.vectors.proofs.root.Binary.{wholePart, halfPower, split-power, whole-bounds, root-bounds, root-parts, root-scaled, positive-word, above-zero, zero-value, normal-parts, subnormal-parts, shiftOf}
 
 -- ---- the parts of any positive finite binary32
 
@@ -44,7 +41,15 @@ parts-of x h above ends =
 
 -- ---- the root meets the statement
 
-pub root-nearest : (x : Float) → T (fits binary32 x) → zero32 <ᶠ x ≡ true → finite x ≡ true → NearestRoot x (root x)
+root-fits : (x : Float) (q p : ℕ) → Parts x q p → T (fits binary32 (root x))
+root-fits x q p parts =
+    let r-in = root-bounds q p (parts .q-least) (parts .q-most) in
+    let r = nearestRoot (wholePart q p) in
+    let room : 24 + halfPower p ≤ 277 = omega (arith, parts .p-most) in
+    subst (λ (y : Float). T (fits binary32 y)) (sym (root-parts x q p parts))
+    (odd-fits binary32 24 false r (halfPower p) (r-in .1) (le-of-lt (r-in .1)) (lt-of-lt-of-le (shl-lt 24 (halfPower p) (r-in .1)) (pow-mono room)))
+
+pub root-nearest : RootNearest
 root-nearest x h above ends =
     let found = parts-of x h above ends in
     let q = found .0 in
@@ -55,30 +60,24 @@ root-nearest x h above ends =
     let a-in = whole-bounds q p (parts .q-least) (parts .q-most) in
     let r-in = root-bounds q p (parts .q-least) (parts .q-most) in
     let near = nearest-near a (omega (arith, a-in)) (omega (arith, a-in)) in
-    let says = near-says a (nearestRoot a) (omega (arith, r-in)) near in
-    record {
-      a = a;
-      k = k;
-      r = nearestRoot a;
-      argument = subst (λ (n : ℕ). HasValue x false n (4 ^ 149)) (split-power q p (parts .p-least)) (parts .value);
-      a-least = a-in .0;
-      a-most = omega (arith, a-in);
-      result = subst (λ (y : Float). HasValue y false (nearestRoot a * 2 ^ k) (2 ^ 149)) (sym (root-parts x q p parts)) (odd-sign 24 false (nearestRoot a) k 149);
-      r-least = r-in .0;
-      r-most = r-in .1;
-      above = says .0;
-      below = says .1;
-    }
+    let says = near-says a (nearestRoot a) (omega (arith, r-in)) near in (
+      root-fits x q p parts,
+      record {
+        a = a;
+        k = k;
+        r = nearestRoot a;
+        argument = subst (λ (n : ℕ). HasValue x false n (4 ^ 149)) (split-power q p (parts .p-least)) (parts .value);
+        a-least = a-in .0;
+        a-most = omega (arith, a-in);
+        result = subst (λ (y : Float). HasValue y false (nearestRoot a * 2 ^ k) (2 ^ 149)) (sym (root-parts x q p parts)) (odd-sign 24 false (nearestRoot a) k 149);
+        r-least = r-in .0;
+        r-most = r-in .1;
+        above = says .0;
+        below = says .1;
+      },
+    )
 
 -- ---- nothing else does
-
-root-fits : (x : Float) (q p : ℕ) → Parts x q p → T (fits binary32 (root x))
-root-fits x q p parts =
-    let r-in = root-bounds q p (parts .q-least) (parts .q-most) in
-    let r = nearestRoot (wholePart q p) in
-    let room : 24 + halfPower p ≤ 277 = omega (arith, parts .p-most) in
-    subst (λ (y : Float). T (fits binary32 y)) (sym (root-parts x q p parts))
-    (odd-fits binary32 24 false r (halfPower p) (r-in .1) (le-of-lt (r-in .1)) (lt-of-lt-of-le (shl-lt 24 (halfPower p) (r-in .1)) (pow-mono room)))
 
 -- a pattern is written from the value alone
 word-of-units : (x : Float) (n : ℕ) → HasValue x false n (2 ^ 149) → toWord x ≡ 0 + (size n - 24) * 2 ^ 23 + n / 2 ^ (size n - 24)
@@ -93,7 +92,7 @@ same-value : (x y : Float) (n : ℕ) → T (fits binary32 x) → T (fits binary3
 same-value x y n h g v w =
     sym (ofBits-toBits binary32 x h) ∙ ap ofWord (word-of-units x n v ∙ sym (word-of-units y n w)) ∙ ofBits-toBits binary32 y g
 
-pub root-only : (x y : Float) → T (fits binary32 x) → T (fits binary32 y) → NearestRoot x y → y ≡ root x
+pub root-only : RootOnly
 root-only x y h g s =
     let a = s .a in
     let k = s .k in
@@ -108,20 +107,24 @@ root-only x y h g s =
 
 -- ---- the other arguments
 
-pub root-of-zero : (s : Bool) → root (fin s 0 (pos 0)) ≡ fin s 0 (pos 0)
-unfolding root
-root-of-zero s = refl
+pub root-of-zero : RootOfZero
+unfolding root eq ofBits
+root-of-zero nan e = refl
+root-of-zero (inf s) e = absurd (false≢true e)
+root-of-zero (fin s zero e) h = refl
+root-of-zero (fin s (suc m) e) h =
+    let some : 0 < suc m * up e = mul-pos (zero-lt-suc m) (up-pos e) in
+    absurd (omega (arith, zero-value (fin s (suc m) e) s (suc m * up e) (down e) (refl, refl) h))
 
-pub root-of-infinity : root (inf false) ≡ inf false
+pub root-of-infinity : RootOfInfinity
 unfolding root
 root-of-infinity = refl
 
-pub root-of-nan : root nan ≡ nan
+pub root-of-nan : RootOfNan
 unfolding root
 root-of-nan = refl
 
--- -infinity too
-pub root-of-negative : (x : Float) → x <ᶠ zero32 ≡ true → root x ≡ nan
+pub root-of-negative : RootOfNegative
 unfolding root lt ofBits
 root-of-negative nan h = refl
 root-of-negative (inf true) h = refl

@@ -1,12 +1,10 @@
--- Normalising gives zeros only where it says so: a vector times the reciprocal of its length is not a zero vector, where that reciprocal is finite and
--- above zero.
---     scaled-not-zero, normalized-zeros; zero-dot: a zero vector dotted with itself is +0
+-- The claims of scaled vectors: one is not all zeros, `normalize_or_zero` says where it gives zeros, and a zero vector dotted with itself is +0.
 -- A finite length is at most 2 ^ 64, so its reciprocal is at least 2 ^ -64. A component whose product with that is a zero is below 2 ^ -85 in size,
 -- so its square is a zero too. If all three components were so, the length would be zero, and its reciprocal infinite.
 use mathlib.Core.Path.{_≡_, refl, sym, ap, _∙_, subst}
 use mathlib.Core.Bool.{Bool, true, false, _&&_, cond, true≢false, false≢true}
 use Prim.Native.Nat.{ℕ, zero, suc, _+_, _-_, _*_, _/_, _%_, _^_, _≤_, _<_, zero-le, compare}
-use native.Mathlib.Nat.{le-trans, le-of-eq, le-of-lt, lt-of-lt-of-le, lt-of-le-of-lt, not-le-of-lt, zero-lt-suc, pos-of-ne-zero, zero-mul, one-mul, mul-one, mul-assoc, mul-right-comm, mul-mul-mul-comm, mul-pos, mul-le-mul, mul-le-mul-left, mul-le-mul-right, le-of-mul-le-mul-right, lt-of-mul-lt-mul-right, eq-of-mul-eq-mul-right, div-eq-of-lt, div-lt-iff-lt-mul, div-div-eq-div-mul}
+use native.Mathlib.Nat.{le-trans, le-of-eq, le-of-lt, lt-of-lt-of-le, lt-of-le-of-lt, not-le-of-lt, zero-lt-suc, pos-of-ne-zero, zero-mul, one-mul, mul-assoc, mul-right-comm, mul-mul-mul-comm, mul-pos, mul-le-mul, mul-le-mul-left, mul-le-mul-right, le-of-mul-le-mul-right, lt-of-mul-lt-mul-right, eq-of-mul-eq-mul-right, div-eq-of-lt, div-lt-iff-lt-mul, div-div-eq-div-mul}
 use native.Mathlib.Omega.{arith}
 use lib.IntN.{pos, negsuc}
 use lib.Dec.{T, ltb, eqb, lt→ltb, lit≤}
@@ -18,28 +16,19 @@ use lib.Ieee.Fits.{up-pos, down-pos, add-fits, round-is}
 use lib.Ieee.Nearest.{closest, closest-mono, nearest-ge}
 use lib.Ieee.Order.{round-mono}
 use lib.Ieee.Positive.{num, den, positive, first-pos, le→cross}
-use borrow.Author.Tests.{ltb-true, eqb-true, eqb-false}
+use borrow.Author.Tests.{ltb-true, eqb-false}
 use Rattle.vectors.specs.declared.Vec3.{Vec3}
 use Rattle.vectors.specs.declared.Normalized.{Normalized}
 use Rattle.vectors.specs.declared.Normalized.the-variants.{Scaled, Zeros}
 use Rattle.vectors.specs.Number.{_⊕_, _⊗_, _⊘_, _>ᶠ_, one, zero as zero32, finite}
 use Rattle.vectors.specs.Root.{root, nearestRoot}
 use Rattle.vectors.specs.Vec3.{zeroVec, _*ᵥ_, dot, lengthRecip, normalizeOrZero, vectorOf, isZeros, allZero}
+use Rattle.vectors.specs.Claims.{ScaledNotZero, NormalizedZeros, ZeroDot}
 use Rattle.vectors.proofs.Truth.{no-truth, both}
-use Rattle.vectors.proofs.root.Binary.{wholePart, halfPower, root-parts, root-bounds, above-zero}
+use Rattle.vectors.proofs.root.Binary.{wholePart, halfPower, root-parts, root-bounds, above-zero, zero-value}
 use Rattle.vectors.proofs.root.Nearest.{parts-of}
 
 -- ---- which fractions round to a zero
-
--- what equals zero is 0 / d
-zero-value : (x : Float) (s : Bool) (n d : ℕ) → HasValue x s n d → eq x zero32 ≡ true → n ≡ 0
-unfolding eq ofBits
-zero-value nan s n d v e = absurd v
-zero-value (inf t) s n d v e = absurd v
-zero-value (fin t m k) s n d v e =
-    let same = eqb-true (m * up k * 1) (0 * down k) (both (eqb (m * up k * 1) (0 * down k)) _ e .0) in
-    let none : m * up k ≡ 0 = sym (mul-one (m * up k)) ∙ same ∙ zero-mul (down k) in
-    eq-of-mul-eq-mul-right (down k) (down-pos k) n 0 (sym (v .1) ∙ ap (λ (z : ℕ). z * d) none ∙ zero-mul d ∙ sym (zero-mul (down k)))
 
 none-kept : (s : Bool) (q k : ℕ) → eq (units binary32 s q k) zero32 ≡ true → q ≡ 0
 unfolding units
@@ -212,7 +201,7 @@ zero-squares v r least e =
     let (x-zero, y-zero, z-zero) = zero-parts (v *ᵥ r) e in
     rw (square-vanishes r (v .x) least x-zero, square-vanishes r (v .y) least y-zero, square-vanishes r (v .z) least z-zero)
 
-pub scaled-not-zero : (v : Vec3) → finite (lengthRecip v) ≡ true → (lengthRecip v >ᶠ zero32) ≡ true → allZero (v *ᵥ lengthRecip v) ≡ false
+pub scaled-not-zero : ScaledNotZero
 unfolding lengthRecip
 scaled-not-zero v ends above = go (allZero (v *ᵥ lengthRecip v)) refl
   where
@@ -223,8 +212,7 @@ scaled-not-zero v ends above = go (allZero (v *ᵥ lengthRecip v)) refl
         absurd (false≢true (sym no-length ∙ ap (λ (d : Float). finite (one ⊘ root d)) (sym squares) ∙ ends))
     go false e = refl
 
--- zeros are given exactly where it is said
-pub normalized-zeros : (v : Vec3) → isZeros (normalizeOrZero v) ≡ allZero (vectorOf (normalizeOrZero v))
+pub normalized-zeros : NormalizedZeros
 unfolding normalizeOrZero
 normalized-zeros v = go (finite (lengthRecip v)) refl (lengthRecip v >ᶠ zero32) refl
   where
@@ -250,7 +238,7 @@ square-of-zero (fin s m e) z =
     let square : a * a * 2 ^ 151 ≤ c * c = subst (λ (n : ℕ). n * n * 2 ^ 151 ≤ c * c) (sym none) (le-trans (le-of-eq (zero-mul (2 ^ 151))) zero-le) in
     quarter-smallest (unlike s s) (a * a) (c * c) (mul-pos (down-pos e) (down-pos e)) square ∙ ap (λ (t : Bool). fin t 0 (pos 0)) (square-sign s)
 
-pub zero-dot : (v : Vec3) → allZero v ≡ true → dot v v ≡ zero32
+pub zero-dot : ZeroDot
 unfolding dot add ofBits
 zero-dot v e =
     let (x-zero, y-zero, z-zero) = zero-parts v e in
