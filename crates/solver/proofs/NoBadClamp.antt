@@ -1,6 +1,5 @@
 -- With a direction as the optimum no clamp is asked for, so no program that seeks one ends in a bad clamp: the inner programs of 4D never do.
---     line-never-bad, plane-never-bad, three-d-never-bad
-use mathlib.Core.Path.{_≡_, subst}
+use mathlib.Core.Path.{subst}
 use mathlib.Core.List.{List, []}
 use Prim.Native.Nat.{ℕ}
 use lib.ListN.{length}
@@ -24,6 +23,7 @@ use Rattle.solver.specs.Plane.{signedDistance}
 use Rattle.solver.specs.AlongLine.{alongLine, bestOn, cutAll}
 use Rattle.solver.specs.AlongPlane.{alongPlane, startOn, lineOn, fromLine, byLine, byConstraint}
 use Rattle.solver.specs.ThreeD.{threeD, startIn, byPlane, fromPlane}
+use Rattle.solver.specs.Claims.{ThreeDNeverBad}
 use Rattle.solver.proofs.InTurn.{either, kept-in-turn}
 
 abbrev soundLine : OnLine → Type 0
@@ -98,13 +98,5 @@ module _ (radius x y z : Float) where
   unfolding threeD
   three-d-sound constraints = kept-in-turn (byPlane radius (Direction x y z)) soundOutcome outer-sound [] constraints (outcome.Feasible (startIn radius (Direction x y z))) tt
 
-  -- ---- the statements
-
-  pub line-never-bad : (line : Line) (constraints : List Plane) → alongLine line radius constraints (Direction x y z) ≡ onLine.BadClamp → ⊥
-  line-never-bad line constraints e = subst (λ (a : OnLine). soundLine a) e (line-sound line constraints)
-
-  pub plane-never-bad : (plane : Plane) (constraints : List Plane) → alongPlane plane radius constraints (Direction x y z) ≡ onPlane.BadClamp → ⊥
-  plane-never-bad plane constraints e = subst (λ (a : OnPlane). soundPlane a) e (plane-sound plane constraints)
-
-  pub three-d-never-bad : (constraints : List Plane) (index : ℕ) → threeD constraints radius (Direction x y z) ≡ outcome.BadClamp index → ⊥
-  three-d-never-bad constraints index e = subst (λ (o : Outcome). soundOutcome o) e (three-d-sound constraints)
+pub three-d-never-bad : ThreeDNeverBad
+three-d-never-bad planes radius x y z k e = subst (λ (o : Outcome). soundOutcome o) e (three-d-sound radius x y z planes)

@@ -1,9 +1,4 @@
--- Why the 3D program reports what it reports: the claims of `specs/Why.antt`.
---     fails-exactly, fails-exactly-any: infeasible at k with v, exactly when plane k stops the program and solving on it fails
---     later-unread, later-replaced: what stands after plane k is not read
---     feasible-beginnings: a feasible list has only feasible beginnings
---     clamp-apart, clamps-exactly: a bad clamp is neither, and when it is reported
---     only-index, only-plane: one index, one value and one plane
+-- Why the 3D program reports what it reports: the claims of document 02's [7].
 -- One law carries them: planes that come after others start from the outcome that those left (`after`), and what stopped the program stays (`unread`).
 use mathlib.Core.Path.{_≡_, refl, sym, ap, _∙_, subst}
 use mathlib.Core.Bool.{Bool, true, false, cond}
@@ -26,7 +21,7 @@ use Rattle.solver.specs.declared.Outcome.the-variants.{Feasible, Infeasi
 use Rattle.solver.specs.Plane.{signedDistance, inTurn}
 use Rattle.solver.specs.AlongPlane.{alongPlane}
 use Rattle.solver.specs.ThreeD.{threeD, startIn, byPlane, fromPlane}
-use Rattle.solver.specs.Why.{IsFeasible, infeasibleAt, ComesTo, FailsExactly, FailsExactlyAny, LaterUnread, LaterReplaced, FeasibleBeginnings, ClampApart, ClampsExactly, OnlyIndex, OnlyPlane}
+use Rattle.solver.specs.Claims.{IsFeasible, infeasibleAt, ComesTo, FailsExactly, FailsExactlyAny, LaterUnread, LaterReplaced, FeasibleBeginnings, ClampApart, ClampsExactly, OnlyIndex, OnlyPlane}
 use Rattle.solver.proofs.InTurn.{stays, in-turn-after}
 
 -- ---- the element at an index

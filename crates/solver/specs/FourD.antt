@@ -44,7 +44,7 @@ turnedAll constraint [] = []
 turnedAll constraint (previous ∷ more) = kept (turnBy constraint previous) (turnedAll constraint more)
 
 -- an infeasible inner program keeps value and penetration; and so would a bad clamp, of which there is none with a direction as the optimum
--- (`three-d-never-bad`, proofs/NoBadClamp.antt)
+-- (`ThreeDNeverBad` in Claims.antt)
 unfoldable pub relaxedTo : Plane → Relaxed → Outcome → Relaxed
 relaxedTo constraint state (Feasible value) = record { value = value; penetration = neg (signedDistance constraint value) }
 relaxedTo constraint state (Infeasible failure) = state

@@ -30,6 +30,7 @@ use Rattle.solver.specs.AlongPlane.{alongPlane, onCircle, startInCircle,
 use Rattle.solver.specs.ThreeD.{threeD, startIn, byPlane, fromPlane}
 use Rattle.solver.specs.FourD.{turnedAll, relaxedTo, relaxBy, fourD}
 use Rattle.solver.specs.Solve.{valueOf, solve}
+use Rattle.solver.specs.Claims.{SolveIsBinary32}
 use Rattle.solver.proofs.InTurn.{either, kept-in-turn}
 
 -- ---- what a program's answer holds
@@ -165,6 +166,6 @@ value-is planes radius (outcome.Feasible v) is = is
 value-is planes radius (outcome.Infeasible f) is = four-d-is planes radius f is
 value-is planes radius (outcome.BadClamp i) is = zero-is
 
-pub solve-is-binary32 : (planes : List Plane) (radius : Float) (preferred : Vec3) → IsBinary32 preferred → IsBinary32 (solve planes radius preferred .value)
+pub solve-is-binary32 : SolveIsBinary32
 unfolding solve
 solve-is-binary32 planes radius preferred is = value-is planes radius _ (three-d-is planes radius _ (point-start-is radius preferred is))

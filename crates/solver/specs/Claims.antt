@@ -1,5 +1,6 @@
--- Why the 3D program reports what it reports: document 02's [7], as claims. They are proved in `proofs/Why.antt`. Only `FailsExactly` speaks of finite numbers,
--- as the document does: every claim holds of any numbers, NaN and infinity too.
+-- What is proved of the programs, each statement under its name: why the 3D program reports what it reports, which is document 02's [7], and what the velocity
+-- call needs to know of a solve. The proofs are in `proofs/`. Only `FailsExactly` speaks of finite numbers, as the document does: every claim holds of any
+-- numbers.
 use Prim.Native.Nat.{ℕ, suc}
 use mathlib.Core.Path.{_≡_}
 use mathlib.Core.Bool.{true, false}
@@ -10,7 +11,7 @@ use lib.ListN.{take, getElem?}
 use lib.Ieee.{Float}
 use Rattle.vectors.specs.declared.Vec3.{Vec3}
 use Rattle.vectors.specs.Number.{_>ᶠ_, zero, finite}
-use Rattle.vectors.specs.Vec3.{finiteVec}
+use Rattle.vectors.specs.Vec3.{finiteVec, IsBinary32}
 use Rattle.solver.specs.declared.Plane.{Plane}
 use Rattle.solver.specs.declared.Optimum.{Optimum}
 use Rattle.solver.specs.declared.Optimum.the-variants.{Point, Direction}
@@ -21,6 +22,8 @@ use Rattle.solver.specs.declared.Outcome.the-variants.{Feasible, Infeasi
 use Rattle.solver.specs.Plane.{signedDistance}
 use Rattle.solver.specs.AlongPlane.{alongPlane}
 use Rattle.solver.specs.ThreeD.{threeD}
+use Rattle.solver.specs.Solve.{solve}
+use Rattle.solver.specs.Examples.{All, examples}
 
 -- ---- the three reports
 
@@ -62,7 +65,7 @@ abbrev pub FiniteOptimum : Optimum → Type 0
 FiniteOptimum (Point x y z) = finiteVec (record { x = x; y = y; z = z }) ≡ true
 FiniteOptimum (Direction x y z) = finiteVec (record { x = x; y = y; z = z }) ≡ true
 
--- ---- the claims
+-- ---- why
 
 -- Document 02's sentence: for finite planes, radius and optimum, infeasible at k with v is reported exactly when plane k exists, the first k planes alone are
 -- feasible with v, the signed distance of v to plane k is not above 0, and solving on plane k with the first k planes fails.
@@ -71,11 +74,11 @@ FailsExactly =
     (planes : List Plane) (radius : Float) (optimum : Optimum) → FinitePlanes planes → finite radius ≡ true → FiniteOptimum optimum
     → Explained planes radius optimum
 
--- the same of any numbers
+-- The same of any numbers, NaN and infinity too.
 abbrev pub FailsExactlyAny : Type 0
 FailsExactlyAny = (planes : List Plane) (radius : Float) (optimum : Optimum) → Explained planes radius optimum
 
--- planes added after a list that is infeasible at k with v leave that report as it is
+-- Planes added after a list that is infeasible at k with v leave that report as it is.
 abbrev pub LaterUnread : Type 0
 LaterUnread =
     (planes later : List Plane) (radius : Float) (optimum : Optimum) (k : ℕ) (v : Vec3)
@@ -87,30 +90,45 @@ LaterReplaced =
     (planes others : List Plane) (radius : Float) (optimum : Optimum) (k : ℕ) (v : Vec3) → take (suc k) others ≡ take (suc k) planes
     → threeD planes radius optimum ≡ infeasibleAt k v → threeD others radius optimum ≡ infeasibleAt k v
 
--- a feasible list has only feasible beginnings: its first n planes are feasible, for every n
+-- A feasible list has only feasible beginnings: its first n planes are feasible, for every n.
 abbrev pub FeasibleBeginnings : Type 0
 FeasibleBeginnings = (planes : List Plane) (radius : Float) (optimum : Optimum) → IsFeasible (threeD planes radius optimum) → (n : ℕ) → IsFeasible (threeD (take n planes) radius optimum)
 
--- a bad clamp, refusal 18, is neither feasible nor infeasible
+-- A bad clamp, refusal 18, is neither feasible nor infeasible.
 abbrev pub ClampApart : Type 0
 ClampApart =
     (planes : List Plane) (radius : Float) (optimum : Optimum) (k : ℕ) → threeD planes radius optimum ≡ BadClamp k
     → (¬ IsFeasible (threeD planes radius optimum)) × (¬ IsInfeasible (threeD planes radius optimum))
 
--- it is reported at k exactly when the program comes to plane k, with some value, and solving on it meets a bad pair
+-- A bad clamp is reported at k exactly when the program comes to plane k, with some value, and solving on that plane meets a pair of bounds of which the lower is
+-- not at most the upper.
 abbrev pub ClampsExactly : Type 0
 ClampsExactly =
     (planes : List Plane) (radius : Float) (optimum : Optimum) (k : ℕ)
     → (threeD planes radius optimum ≡ BadClamp k) ↔ ((v : Vec3) × ComesTo planes radius optimum k v onPlane.BadClamp)
 
--- no list is infeasible at two indices, nor with two values
+-- No list is infeasible at two indices, nor with two values.
 abbrev pub OnlyIndex : Type 0
 OnlyIndex =
     (planes : List Plane) (radius : Float) (optimum : Optimum) (j k : ℕ) (v w : Vec3)
     → threeD planes radius optimum ≡ infeasibleAt j v → threeD planes radius optimum ≡ infeasibleAt k w → (j ≡ k) × (v ≡ w)
 
--- and no two planes explain it
+-- No two planes explain why a list is infeasible, nor do two values.
 abbrev pub OnlyPlane : Type 0
 OnlyPlane =
     (planes : List Plane) (radius : Float) (optimum : Optimum) (j k : ℕ) (v w : Vec3)
     → ComesTo planes radius optimum j v onPlane.Infeasible → ComesTo planes radius optimum k w onPlane.Infeasible → (j ≡ k) × (v ≡ w)
+
+-- The lists of planes of Examples.antt do what is said there.
+abbrev pub FailingExamples : Type 0
+FailingExamples = All examples
+
+-- ---- a solve
+
+-- With a direction as the optimum the 3D program never reports a bad clamp; so the inner programs of 4D never do.
+abbrev pub ThreeDNeverBad : Type 0
+ThreeDNeverBad = (planes : List Plane) (radius x y z : Float) (k : ℕ) → ¬ (threeD planes radius (Direction x y z) ≡ BadClamp k)
+
+-- The value of a solve is three binary32 numbers, where the preferred velocity is.
+abbrev pub SolveIsBinary32 : Type 0
+SolveIsBinary32 = (planes : List Plane) (radius : Float) (preferred : Vec3) → IsBinary32 preferred → IsBinary32 (solve planes radius preferred .value)
