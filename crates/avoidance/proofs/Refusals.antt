@@ -1,32 +1,24 @@
--- Each refusal of the velocity call is given exactly when document 01 says.
---     refused-1 … refused-7, refused-17, refused-18: answer N if and only if N's condition is the first that holds
---     answered-0: answer 0 if and only if none holds
---     lowest-place: the place of answers 3 and 4 is the lowest of a number that is bad
---     lowest-plane: the neighbour of answer 6 is the lowest whose plane is not finite
---     refused-zeros: a refused velocity is three zeros
+-- The velocity call answers each number exactly when document 01 says; a refused velocity is three zeros; and the promise leaves one reply and one scratch.
 --     by-conditions: the refusal is the one of the first condition that holds, for the layers above
---     scratch-unread: of scratch only the length is read
---     same-call: two calls that meet the promise answer alike and leave the same scratch
 use mathlib.Core.Path.{_≡_, refl, sym, ap, _∙_}
 use mathlib.Core.Bool.{Bool, true, false, not, cond}
 use mathlib.Core.List.{List, [], _∷_, _++_}
 use mathlib.Core.Logic.{_↔_}
-use Prim.Native.Nat.{ℕ, suc}
+use Prim.Native.Nat.{ℕ, zero, suc}
 use native.Mathlib.Omega.{arith}
-use lib.ListN.{length}
-use lib.Ieee.{Float, nan}
+use lib.Ieee.{Float}
 use Rattle.vectors.specs.Promise.{determined}
 use Rattle.vectors.specs.declared.Vec3.{Vec3}
-use Rattle.vectors.specs.Vec3.{zeroVec, finiteVec, plusZeros}
+use Rattle.vectors.specs.Vec3.{finiteVec, plusZeros}
 use Rattle.refusals.specs.declared.Found.{Found}
 use Rattle.refusals.specs.declared.Found.the-variants.{At, Nothing}
 use Rattle.refusals.specs.declared.Refusal.the-variants as refusal
 use Rattle.refusals.specs.declared.Verdict.{Verdict}
 use Rattle.refusals.specs.declared.Verdict.the-variants as verdict
 use Rattle.refusals.specs.Refusal as refusals
-use Rattle.refusals.specs.Conditions.{firstHolding, First, isFound, some, marked, firstBad, Lowest}
+use Rattle.refusals.specs.Conditions.{firstHolding, isFound, some, marked, firstBad}
 use Rattle.refusals.specs.Verdict.{_⊳_, settledBy, refusedIf, refusedAt}
-use Rattle.refusals.proofs.Conditions.{no-place, indexOf, orElse, holding-append, lowest}
+use Rattle.refusals.proofs.Conditions.{no-place, indexOf, orElse, holding-append}
 use Rattle.refusals.proofs.Verdicts.{not-answered, said, Says, then, held-says, found-says}
 use Rattle.solver.specs.declared.Plane.{Plane}
 use Rattle.solver.specs.declared.Outcome.{Outcome}
@@ -40,18 +32,10 @@ use Rattle.avoidance.specs.declared.Reply.the-variants.{Answered, Refuse
 use Rattle.avoidance.specs.Lent.{agentCount}
 use Rattle.avoidance.specs.Request.{fallbackPlace}
 use Rattle.avoidance.specs.Checks.{badNumber, callNumbers, firstOf, ragged, tooMany, neededScratch, shortScratch, badFallback, checks}
-use Rattle.avoidance.specs.Reply.{number, velocityOf}
-use Rattle.avoidance.specs.Velocity.{planesOfCall, badPlane, firstUnseen, answeredWith, outcomeReply, replyOf, planesVerdict, plannedReply, velocityCall, scratchAfter}
+use Rattle.avoidance.specs.Reply.{number}
+use Rattle.avoidance.specs.Velocity.{planesOfCall, badPlane, firstUnseen, answeredWith, outcomeReply, replyOf, planesVerdict, plannedReply, velocityCall}
 use Rattle.avoidance.specs.Conditions.{badClamp, velocityConditions}
-
--- ---- the lowest place
-
-pub lowest-place : (asked : Asked) (request : Request) (neighbours : List Float) (place : ℕ) → (firstOf asked request neighbours ≡ At place) ↔ Lowest (badNumber asked) 0 (callNumbers request neighbours) nan place
-unfolding firstOf
-lowest-place asked request neighbours place = lowest (badNumber asked) 0 (callNumbers request neighbours) nan place
-
-pub lowest-plane : (planes : List Plane) (d : Plane) (neighbour : ℕ) → (firstBad badPlane 0 planes ≡ At neighbour) ↔ Lowest badPlane 0 planes d neighbour
-lowest-plane planes d neighbour = lowest badPlane 0 planes d neighbour
+use Rattle.avoidance.specs.Claims.{RefusedExactly, AnsweredExactly, RefusedZeros, ScratchUnread, SameCall}
 
 -- ---- what a reply says
 
@@ -123,7 +107,7 @@ by-conditions request neighbours k =
     reply-says (checks request neighbours k) _ _ ((6, some (marked badPlane 0 planes)) ∷ (18, badClamp (solution .outcome)) ∷ (7, not (finiteVec (solution .value))) ∷ []) (checks-say request neighbours k)
     (reply-says (planesVerdict planes) (replyOf solution (firstUnseen request neighbours)) ((6, some (marked badPlane 0 planes)) ∷ []) _ (planes-say planes) (solution-says (solution .outcome) (solution .value) (firstUnseen request neighbours)))
 
--- ---- the theorems
+-- ---- the claims
 
 -- a reply has the number n + 1 exactly where it is refused with it
 pub numbered : (reply : Reply) (n : ℕ) → (number reply ≡ suc n) ↔ (refusedWith reply ≡ At (suc n))
@@ -135,41 +119,11 @@ pub unrefused : (reply : Reply) → (number reply ≡ 0) ↔ (refusedWith reply 
 unrefused (Answered course) = (λ e. refl, λ e. refl)
 unrefused (Refused r) = (λ e. absurd (not-answered r e), λ e. no-place (sym e))
 
--- answer n if and only if n's condition is the first that holds
-abbrev pub Exactly : ℕ → Type 0
-Exactly n = (request : Request) (neighbours : List Float) (k : ℕ) → (number (velocityCall request neighbours k) ≡ n) ↔ First n (velocityConditions request neighbours k)
-
-pub exactly : (n : ℕ) → Exactly (suc n)
-exactly n request neighbours k =
+pub refused-exactly : RefusedExactly
+refused-exactly request neighbours k zero above = absurd (omega arith)
+refused-exactly request neighbours k (suc n) above =
     let (to, from) = numbered (velocityCall request neighbours k) n in
     (λ e. sym (by-conditions request neighbours k) ∙ to e, λ h. from (by-conditions request neighbours k ∙ h))
-
-pub refused-1 : Exactly 1
-refused-1 = exactly 0
-
-pub refused-2 : Exactly 2
-refused-2 = exactly 1
-
-pub refused-3 : Exactly 3
-refused-3 = exactly 2
-
-pub refused-4 : Exactly 4
-refused-4 = exactly 3
-
-pub refused-5 : Exactly 5
-refused-5 = exactly 4
-
-pub refused-6 : Exactly 6
-refused-6 = exactly 5
-
-pub refused-7 : Exactly 7
-refused-7 = exactly 6
-
-pub refused-17 : Exactly 17
-refused-17 = exactly 16
-
-pub refused-18 : Exactly 18
-refused-18 = exactly 17
 
 none-holds : (cs : List (ℕ × Bool)) → (firstHolding cs ≡ Nothing) ↔ (some cs ≡ false)
 none-holds cs = go (firstHolding cs)
@@ -178,25 +132,20 @@ none-holds cs = go (firstHolding cs)
     go (At n) = (λ e. no-place (sym e), λ e. let z : _≡_ {A = ℕ} 0 1 = cc in absurd (omega arith))
     go Nothing = (λ e. refl, λ e. refl)
 
-pub answered-0 : (request : Request) (neighbours : List Float) (k : ℕ) → (number (velocityCall request neighbours k) ≡ 0) ↔ (some (velocityConditions request neighbours k) ≡ false)
-answered-0 request neighbours k =
+pub answered-exactly : AnsweredExactly
+answered-exactly request neighbours k =
     let (to, from) = unrefused (velocityCall request neighbours k) in
     let (some-not, none) = none-holds (velocityConditions request neighbours k) in
     (λ e. some-not (sym (by-conditions request neighbours k) ∙ to e), λ e. from (by-conditions request neighbours k ∙ none e))
 
--- a refused velocity is three zeros
-pub refused-zeros : (reply : Reply) → (number reply ≡ 0 → ⊥) → velocityOf reply ≡ zeroVec
+pub refused-zeros : RefusedZeros
 refused-zeros (Answered course) refused = absurd (refused refl)
 refused-zeros (Refused r) refused = refl
 
--- what scratch held before alters no answer
-pub scratch-unread : (request : Request) (neighbours before other : List Float) → length before ≡ length other → velocityCall request neighbours (length before) ≡ velocityCall request neighbours (length other)
-scratch-unread request neighbours before other same = ap (velocityCall request neighbours) same
+-- ---- the promise
 
--- what meets the velocity call's promise
-abbrev pub Meets : Request → List Float → List Float → Reply → List Float → Type 0
-Meets request neighbours scratch reply after = (reply ≡ velocityCall request neighbours (length scratch)) × (after ≡ scratchAfter request neighbours scratch)
+pub scratch-unread : ScratchUnread
+scratch-unread request neighbours scratch scratch′ after after′ reply reply′ same (answer, left) (answer′, left′) = answer ∙ ap (velocityCall request neighbours) same ∙ sym answer′
 
-pub same-call : (request : Request) (neighbours scratch : List Float) (reply reply′ : Reply) (after after′ : List Float)
-    → Meets request neighbours scratch reply after → Meets request neighbours scratch reply′ after′ → (reply ≡ reply′) × (after ≡ after′)
-same-call request neighbours scratch reply reply′ after after′ (answer, left) (answer′, left′) = (determined answer answer′, determined left left′)
+pub same-call : SameCall
+same-call request neighbours scratch after after′ reply reply′ (answer, left) (answer′, left′) = (determined answer answer′, determined left left′)

@@ -24,6 +24,7 @@ use Rattle.avoidance.specs.Request.{fallbackPlace}
 use Rattle.avoidance.specs.Checks.{firstOf, ragged, tooMany, neededScratch, shortScratch, badFallback, checks}
 use Rattle.avoidance.specs.Reply.{isAnswered, number, placeOf, velocityOf, nameOf, renamedCourse, renamedRefusal, renamed}
 use Rattle.avoidance.specs.Velocity.{plannedReply, velocityCall}
+use Rattle.avoidance.specs.Claims.{AnyScratch}
 use Rattle.avoidance.proofs.Refusals.{refusedWith}
 
 -- ---- the number of an answer is 0
@@ -124,8 +125,7 @@ module _ (request : Request) (neighbours : List Float) (k : ℕ) (passed : check
   passed-again enough fits =
       rw (whole-and-rest .0, few-and-rest .0, le-ltb enough (neededScratch neighbours) fits) (long-and-rest .1)
 
--- an answer given with some scratch is given with any scratch that is enough
-pub any-scratch : (request : Request) (neighbours : List Float) (k enough : ℕ) → neededScratch neighbours ≤ enough → isAnswered (velocityCall request neighbours k) ≡ true → velocityCall request neighbours enough ≡ velocityCall request neighbours k
+pub any-scratch : AnyScratch
 unfolding velocityCall
 any-scratch request neighbours k enough fits answered =
     let passed = answered-passed (checks request neighbours k) (plannedReply request neighbours) answered in

@@ -1,11 +1,11 @@
 -- 17 and 18 tell apart what document 01's 1 and 7 had together, and refuse no other call.
---     same-inputs-refused: the calls refused with 1 or 17 are those that its 1 named, and those refused with 18 or 7 those that its 7 named
 --     told-apart, document-one-holding: what that is made of, for plans
 use mathlib.Core.Path.{_≡_, refl, sym, ap, _∙_}
 use mathlib.Core.Bool.{Bool, true, false, not, _||_, cond}
 use mathlib.Core.List.{List, [], _∷_}
 use mathlib.Core.Logic.{_↔_, _⊎_, inl, inr}
 use Prim.Native.Nat.{ℕ, suc}
+use native.Mathlib.Nat.{zero-lt-suc}
 use native.Mathlib.Omega.{arith}
 use lib.Dec.{eqb}
 use lib.Ieee.{Float}
@@ -22,7 +22,8 @@ use Rattle.avoidance.specs.Checks.{badNumber, callNumbers, ragged, tooMa
 use Rattle.avoidance.specs.Reply.{number}
 use Rattle.avoidance.specs.Velocity.{planesOfCall, badPlane, velocityCall}
 use Rattle.avoidance.specs.Conditions.{badClamp, velocityConditions, documentOneConditions, SameInputs}
-use Rattle.avoidance.proofs.Refusals.{exactly}
+use Rattle.avoidance.specs.Claims.{SameInputsRefused}
+use Rattle.avoidance.proofs.Refusals.{refused-exactly}
 
 -- the number that document 01 has for what is refused with a number
 abbrev pub documentOne : ℕ → ℕ
@@ -95,7 +96,7 @@ document-one-holding request neighbours k =
     ∙ joined-holding ((1, ragged neighbours || tooMany neighbours) ∷ between) 7 clamp unfinite [])
     ∙ renumbered-holding documentOne (velocityConditions request neighbours k)
 
-pub same-inputs-refused : (request : Request) (neighbours : List Float) (k : ℕ) → SameInputs (number (velocityCall request neighbours k)) (documentOneConditions request neighbours k)
+pub same-inputs-refused : SameInputsRefused
 same-inputs-refused request neighbours k =
     told-apart (number (velocityCall request neighbours k)) (firstHolding (velocityConditions request neighbours k)) (documentOneConditions request neighbours k)
-    (λ n. exactly n request neighbours k) (document-one-holding request neighbours k)
+    (λ n. refused-exactly request neighbours k (suc n) (zero-lt-suc n)) (document-one-holding request neighbours k)

@@ -1,28 +1,19 @@
--- The velocity call's refusals as a list of conditions, each with its number and by itself, and what the place of each is. That the call
--- gives N exactly when N's condition is the first that holds is proved in `proofs/Refusals.antt`.
-use Prim.Native.Nat.{ℕ, _*_}
+-- The velocity call's refusals as a list of conditions, each with its number and by itself. That the call gives N exactly when N's condition
+-- is the first that holds is `RefusedExactly` in Claims.antt.
+use Prim.Native.Nat.{ℕ}
 use mathlib.Core.Path.{_≡_}
-use mathlib.Core.Bool.{Bool, true, false, not, _||_, cond}
-use mathlib.Core.List.{List, [], _∷_, _++_}
+use mathlib.Core.Bool.{Bool, true, false, not, _||_}
+use mathlib.Core.List.{List, [], _∷_}
 use mathlib.Core.Logic.{_↔_, _⊎_}
-use lib.Dec.{eqb}
-use lib.ListN.{drop, replicate}
 use lib.Ieee.{Float}
-use Rattle.vectors.specs.Number.{zero}
 use Rattle.vectors.specs.Vec3.{finiteVec}
-use Rattle.refusals.specs.declared.Found.the-variants.{At}
-use Rattle.refusals.specs.declared.Refusal.{Refusal}
-use Rattle.refusals.specs.declared.Refusal.the-variants as refusal
-use Rattle.refusals.specs.Conditions.{First, some, marked, firstBad}
+use Rattle.refusals.specs.Conditions.{First, some, marked}
 use Rattle.solver.specs.declared.Outcome.{Outcome}
 use Rattle.solver.specs.declared.Outcome.the-variants.{Feasible, Infeasible, BadClamp}
-use Rattle.solver.specs.Lent.{perPlane, scratchFor, numbersOfPlanes}
 use Rattle.solver.specs.Solve.{solve}
 use Rattle.avoidance.specs.declared.Request.{Request}
 use Rattle.avoidance.specs.declared.Asked.the-variants.{Finite, InRange}
-use Rattle.avoidance.specs.Lent.{agentCount}
-use Rattle.avoidance.specs.Request.{fallbackPlace}
-use Rattle.avoidance.specs.Checks.{badNumber, callNumbers, firstOf, ragged, tooMany, neededScratch, shortScratch, badFallback}
+use Rattle.avoidance.specs.Checks.{badNumber, callNumbers, ragged, tooMany, shortScratch, badFallback}
 use Rattle.avoidance.specs.Velocity.{planesOfCall, badPlane}
 
 unfoldable pub badClamp : Outcome → Bool
@@ -67,25 +58,3 @@ abbrev pub SameInputs : ℕ → List (ℕ × Bool) → Type 0
 SameInputs answer documentOne =
     ((answer ≡ 1) ⊎ (answer ≡ 17) ↔ First 1 documentOne)
     × ((answer ≡ 7) ⊎ (answer ≡ 18) ↔ First 7 documentOne)
-
--- ---- the place of each refusal
-
-pub data Placed (request : Request) (neighbours : List Float) : Refusal → Type 0 where
-  of-1 : Placed request neighbours refusal.RaggedNeighbours
-  of-17 : Placed request neighbours (refusal.TooManyNeighbours (agentCount neighbours))
-  of-2 : Placed request neighbours (refusal.ShortScratch (neededScratch neighbours))
-  of-3 : (place : ℕ) → firstOf Finite request neighbours ≡ At place → Placed request neighbours (refusal.NotFinite place)
-  of-4 : (place : ℕ) → firstOf InRange request neighbours ≡ At place → Placed request neighbours (refusal.OutOfRange place)
-  of-5 : Placed request neighbours (refusal.BadFallback fallbackPlace)
-  of-6 : (neighbour : ℕ) → firstBad badPlane 0 (planesOfCall request neighbours) ≡ At neighbour → Placed request neighbours (refusal.PlaneNotFinite neighbour)
-  of-18 : (plane : ℕ) → solve (planesOfCall request neighbours) (request .«max_speed») (request .preferred) .outcome ≡ BadClamp plane → Placed request neighbours (refusal.BadClamp plane)
-  of-7 : Placed request neighbours refusal.NoVelocity
-
--- ---- what is left in scratch, by the answer's number: the planes and +0 for an answer, +0 for 6, 18 and 7, and what it held for the others
-
-unfoldable pub scratchBy : ℕ → Request → List Float → List Float → List Float
-scratchBy answer request neighbours scratch =
-    let n = agentCount neighbours in
-    let past = drop (scratchFor n) scratch in
-    cond (eqb answer 0) (numbersOfPlanes (planesOfCall request neighbours) ++ replicate (perPlane * n) zero ++ past)
-    (cond (eqb answer 6 || eqb answer 18 || eqb answer 7) (replicate (scratchFor n) zero ++ past) scratch)

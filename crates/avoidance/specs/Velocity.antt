@@ -73,7 +73,7 @@ unfoldable pub answeredWith : Vec3 → Found → Found → Reply
 answeredWith value relaxed unseen = cond (finiteVec value) (Answered (record { velocity = plusZeros value; relaxed = relaxed; unseen = unseen })) (Refused refusal.NoVelocity)
 
 -- A bad clamp is refused with the plane that was being solved on. It is never a turned one, whose place would be that of the plane it
--- was turned from: the optimum is a direction there, and then there is no bad clamp (`three-d-never-bad`, the solver's proofs/NoBadClamp.antt).
+-- was turned from: the optimum is a direction there, and then there is no bad clamp (`ThreeDNeverBad`, the solver's Claims.antt).
 unfoldable pub outcomeReply : Outcome → Vec3 → Found → Reply
 outcomeReply (Feasible best) value unseen = answeredWith value Nothing unseen
 outcomeReply (Infeasible failure) value unseen = answeredWith value (At (failure .index)) unseen

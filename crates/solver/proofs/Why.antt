@@ -13,6 +13,7 @@ use Rattle.vectors.specs.declared.Vec3.{Vec3}
 use Rattle.vectors.specs.Number.{_>ᶠ_, zero as zero32}
 use Rattle.solver.specs.declared.Plane.{Plane}
 use Rattle.solver.specs.declared.Optimum.{Optimum}
+use Rattle.solver.specs.declared.Optimum.the-variants.{Point}
 use Rattle.solver.specs.declared.OnPlane.{OnPlane}
 use Rattle.solver.specs.declared.OnPlane.the-variants as onPlane
 use Rattle.solver.specs.declared.Failure.{Failure}
@@ -21,6 +22,7 @@ use Rattle.solver.specs.declared.Outcome.the-variants.{Feasible, Infeasi
 use Rattle.solver.specs.Plane.{signedDistance, inTurn}
 use Rattle.solver.specs.AlongPlane.{alongPlane}
 use Rattle.solver.specs.ThreeD.{threeD, startIn, byPlane, fromPlane}
+use Rattle.solver.specs.Solve.{solve}
 use Rattle.solver.specs.Claims.{IsFeasible, infeasibleAt, ComesTo, FailsExactly, FailsExactlyAny, LaterUnread, LaterReplaced, FeasibleBeginnings, ClampApart, ClampsExactly, OnlyIndex, OnlyPlane}
 use Rattle.solver.proofs.InTurn.{stays, in-turn-after}
 
@@ -177,3 +179,10 @@ only-index planes radius optimum j k v w e f =
 pub only-plane : OnlyPlane
 only-plane planes radius optimum j k v w c d =
     only-index planes radius optimum j k v w (fails-exactly-any planes radius optimum j v .1 c) (fails-exactly-any planes radius optimum k w .1 d)
+
+-- ---- for the layers above
+
+-- a solve reports what the 3D program does, which seeks the preferred velocity
+pub solve-reports : (planes : List Plane) (radius : Float) (preferred : Vec3) → solve planes radius preferred .outcome ≡ threeD planes radius (Point (preferred .x) (preferred .y) (preferred .z))
+unfolding solve
+solve-reports planes radius preferred = refl

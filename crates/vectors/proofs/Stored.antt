@@ -1,6 +1,6 @@
 -- What a number is that is stored as a word and read back, and which vectors have only components that a word holds.
---     word-back, stored-finite; sum-is, difference-is, product-is, zero-is, plus-zeros-is; plus-zeros-finite
-use mathlib.Core.Path.{_≡_, refl, ap, _∙_}
+--     word-back, stored-finite; sum-is, difference-is, product-is, zero-is, plus-zeros-is; plus-zeros-finite; zero-plus, plus-zeros-plus
+use mathlib.Core.Path.{_≡_, refl, sym, ap, _∙_}
 use mathlib.Core.Bool.{Bool, true, false, cond}
 use lib.Dec.{T}
 use lib.Ieee.{Float, binary32, fits, eq, ofBits}
@@ -9,6 +9,7 @@ use lib.Ieee.Bits.{ofBits-toBits, ofBits-fits}
 use Rattle.vectors.specs.declared.Vec3.{Vec3}
 use Rattle.vectors.specs.Number.{ofWord, toWord, zero, finite, plusZero}
 use Rattle.vectors.specs.Vec3.{zeroVec, _+ᵥ_, _-ᵥ_, _*ᵥ_, finiteVec, plusZeros, IsBinary32}
+use Rattle.vectors.proofs.Truth.{no-truth}
 use Rattle.vectors.proofs.Finite.{finite-parts, finite-whole}
 
 -- ---- numbers
@@ -60,3 +61,23 @@ unfolding plusZeros
 plus-zeros-finite v e =
     let (x-finite, (y-finite, z-finite)) = finite-parts v e in
     finite-whole (plusZeros v) (plus-zero-finite (v .x) x-finite) (plus-zero-finite (v .y) y-finite) (plus-zero-finite (v .z) z-finite)
+
+-- a component that is a zero is +0
+abbrev pub PlusZeros : Vec3 → Type 0
+PlusZeros v = (eq (v .x) zero ≡ true → v .x ≡ zero) × (eq (v .y) zero ≡ true → v .y ≡ zero) × (eq (v .z) zero ≡ true → v .z ≡ zero)
+
+pub zero-plus : PlusZeros zeroVec
+unfolding zeroVec
+zero-plus = (λ e. refl, λ e. refl, λ e. refl)
+
+plus-zero-plus : (x : Float) → eq (plusZero x) zero ≡ true → plusZero x ≡ zero
+unfolding plusZero
+plus-zero-plus x = go (eq x zero) refl
+  where
+    go : (b : Bool) → eq x zero ≡ b → eq (cond b zero x) zero ≡ true → cond b zero x ≡ zero
+    go true is e = refl
+    go false is e = no-truth (sym is ∙ e)
+
+pub plus-zeros-plus : (v : Vec3) → PlusZeros (plusZeros v)
+unfolding plusZeros
+plus-zeros-plus v = (plus-zero-plus (v .x), plus-zero-plus (v .y), plus-zero-plus (v .z))

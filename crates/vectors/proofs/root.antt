@@ -4,4 +4,3 @@ pub mod Digits
 pub mod Binary
 pub mod NotAbove
 pub mod Nearest
-pub mod Examples

@@ -1,6 +1,4 @@
--- Which neighbours are unseen, and which of them an answer names.
---     zero-normal: with a fallback that the call accepts, a neighbour is unseen exactly where its plane's normal is zero
---     unseen-lowest: an answer names the lowest such neighbour, and none exactly where there is none; a refusal names none
+-- A neighbour is unseen exactly where its plane's normal is zero, and an answer names the lowest such neighbour: the claims of document 02's [6].
 use mathlib.Core.Path.{_≡_, refl, sym, ap, _∙_}
 use mathlib.Core.Bool.{Bool, true, false, _&&_, cond, true≢false}
 use mathlib.Core.List.{List, []}
@@ -25,7 +23,7 @@ use Rattle.avoidance.specs.Checks.{badFallback, checks}
 use Rattle.avoidance.specs.Neighbour.{relationOf, onSphere, onCone, projectedFree, collisionNormal, projectedCollision, projected, planeFor}
 use Rattle.avoidance.specs.Reply.{isAnswered, unseenOf}
 use Rattle.avoidance.specs.Velocity.{planeOf, eachFrom, planesFrom, unseenFrom, planesOfCall, unseenOfCall, isUnseen, firstUnseen, plannedReply, velocityCall}
-use Rattle.avoidance.specs.Unseen.{zeroNormal, ZeroNormal, UnseenLowest}
+use Rattle.avoidance.specs.Claims.{zeroNormal, ZeroNormal, UnseenLowest}
 use Rattle.avoidance.proofs.ReplyLaws.{answered-passed, passed-fallback}
 use Rattle.avoidance.proofs.Velocities.{answer-unseen}
 
@@ -124,7 +122,7 @@ module _ (request : Request) (neighbours : List Float) (k : ℕ) (answered : isA
       let passed = answered-passed (checks request neighbours k) (plannedReply request neighbours) answered in
       answer-unseen request neighbours k answered ∙ first-zero request (passed-fallback request neighbours k passed) neighbours
 
-pub unseen-lowest : (request : Request) (neighbours : List Float) (k : ℕ) → UnseenLowest (planesOfCall request neighbours) (velocityCall request neighbours k)
+pub unseen-lowest : UnseenLowest
 unseen-lowest request neighbours k =
     let planes = planesOfCall request neighbours in
     record {

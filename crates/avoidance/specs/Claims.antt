@@ -1,0 +1,197 @@
+-- What is proved of the velocity call, each statement under its name. The proofs are in `proofs/`.
+use Prim.Native.Nat.{ℕ, _*_, _≤_, _<_}
+use mathlib.Core.Path.{_≡_}
+use mathlib.Core.Bool.{Bool, true, false}
+use mathlib.Core.List.{List}
+use mathlib.Core.Logic.{_↔_}
+use lib.ListN.{length, getD, take, drop, replicate}
+use lib.Ieee.{Float, nan, eq}
+use Rattle.vectors.specs.declared.Vec3.{Vec3}
+use Rattle.vectors.specs.Number.{zero}
+use Rattle.vectors.specs.Vec3.{zeroVec, allZero, finiteVec, IsBinary32}
+use Rattle.refusals.specs.declared.Found.the-variants.{At, Nothing}
+use Rattle.refusals.specs.Conditions.{First, some, Lowest}
+use Rattle.solver.specs.declared.Plane.{Plane}
+use Rattle.solver.specs.declared.Optimum.{Optimum}
+use Rattle.solver.specs.declared.Optimum.the-variants.{Point}
+use Rattle.solver.specs.declared.OnPlane.the-variants as onPlane
+use Rattle.solver.specs.Lent.{numbersOfPlanes}
+use Rattle.solver.specs.ThreeD.{threeD}
+use Rattle.solver.specs.Claims.{ComesTo, infeasibleAt}
+use Rattle.avoidance.specs.declared.Agent.{Agent}
+use Rattle.avoidance.specs.declared.Request.{Request}
+use Rattle.avoidance.specs.declared.Asked.the-variants.{Finite, InRange}
+use Rattle.avoidance.specs.declared.Reply.{Reply}
+use Rattle.avoidance.specs.Lent.{agentCount}
+use Rattle.avoidance.specs.Checks.{badNumber, callNumbers, badFallback}
+use Rattle.avoidance.specs.Neighbour.{planeFor}
+use Rattle.avoidance.specs.Reply.{isAnswered, number, placeOf, velocityOf, relaxedOf, unseenOf}
+use Rattle.avoidance.specs.Velocity.{planesOfCall, badPlane, velocityCall, scratchAfter}
+use Rattle.avoidance.specs.Conditions.{velocityConditions, documentOneConditions, SameInputs}
+use Rattle.avoidance.specs.Examples.{All, examples}
+
+-- ---- which answer
+
+-- For every number above 0: the velocity call answers it exactly when its condition is the first that holds.
+abbrev pub RefusedExactly : Type 0
+RefusedExactly =
+    (request : Request) (neighbours : List Float) (scratchLength n : ℕ) → 0 < n
+    → (number (velocityCall request neighbours scratchLength) ≡ n) ↔ First n (velocityConditions request neighbours scratchLength)
+
+-- It answers 0 exactly when none of the conditions holds.
+abbrev pub AnsweredExactly : Type 0
+AnsweredExactly =
+    (request : Request) (neighbours : List Float) (scratchLength : ℕ)
+    → (number (velocityCall request neighbours scratchLength) ≡ 0) ↔ (some (velocityConditions request neighbours scratchLength) ≡ false)
+
+-- The calls answered with 1 or 17 are those for which document 01's 1 is the first that holds, and those answered with 7 or 18 those for which its 7 is.
+abbrev pub SameInputsRefused : Type 0
+SameInputsRefused =
+    (request : Request) (neighbours : List Float) (scratchLength : ℕ)
+    → SameInputs (number (velocityCall request neighbours scratchLength)) (documentOneConditions request neighbours scratchLength)
+
+-- A refused velocity is three +0s: the velocity of every reply whose number is not 0.
+abbrev pub RefusedZeros : Type 0
+RefusedZeros = (reply : Reply) → ¬ (number reply ≡ 0) → velocityOf reply ≡ zeroVec
+
+-- ---- places
+
+-- the point that the 3D program seeks
+abbrev pub sought : Request → Optimum
+sought request = Point (request .preferred .x) (request .preferred .y) (request .preferred .z)
+
+-- What the place is, by the answer's number.
+pub record Placed (request : Request) (neighbours : List Float) (answer place : ℕ) : Type 0 where
+  -- none
+  pub of-0 : answer ≡ 0 → place ≡ 0
+  pub of-1 : answer ≡ 1 → place ≡ 0
+  pub of-7 : answer ≡ 7 → place ≡ 0
+  -- how many neighbours there are
+  pub of-17 : answer ≡ 17 → place ≡ agentCount neighbours
+  -- how many numbers of scratch it takes
+  pub of-2 : answer ≡ 2 → place ≡ 12 * agentCount neighbours
+  -- among the call's numbers, which are the request's 17 and then the neighbours', 8 each: the one there is not finite, or out of its range, and none at a lower
+  -- place is
+  pub of-3 : answer ≡ 3 → Lowest (badNumber Finite) 0 (callNumbers request neighbours) nan place
+  pub of-4 : answer ≡ 4 → Lowest (badNumber InRange) 0 (callNumbers request neighbours) nan place
+  -- the fallback's first number
+  pub of-5 : answer ≡ 5 → place ≡ 14
+  -- the plane of the neighbour there has a component that is not finite, and that of no lower neighbour has (d is never read)
+  pub of-6 : answer ≡ 6 → (d : Plane) → Lowest badPlane 0 (planesOfCall request neighbours) d place
+  -- the 3D program comes to the plane there, and solving on that plane meets a bad clamp
+  pub of-18 : answer ≡ 18 → (v : Vec3) × ComesTo (planesOfCall request neighbours) (request .«max_speed») (sought request) place v onPlane.BadClamp
+
+-- The place of every answer is document 01's, and of 17 and 18 document 02's.
+abbrev pub PlacesByAnswer : Type 0
+PlacesByAnswer =
+    (request : Request) (neighbours : List Float) (scratchLength : ℕ)
+    → Placed request neighbours (number (velocityCall request neighbours scratchLength)) (placeOf (velocityCall request neighbours scratchLength))
+
+-- ---- scratch
+
+-- What stands in scratch after, by the answer's number, for n neighbours whose planes are these.
+pub record ScratchLeft (n : ℕ) (planes : List Plane) (answer : ℕ) (before after : List Float) : Type 0 where
+  -- untouched
+  pub of-1 : answer ≡ 1 → after ≡ before
+  pub of-2 : answer ≡ 2 → after ≡ before
+  pub of-3 : answer ≡ 3 → after ≡ before
+  pub of-4 : answer ≡ 4 → after ≡ before
+  pub of-5 : answer ≡ 5 → after ≡ before
+  pub of-17 : answer ≡ 17 → after ≡ before
+  -- +0 in the first 12n numbers
+  pub of-6 : answer ≡ 6 → take (12 * n) after ≡ replicate (12 * n) zero
+  pub of-7 : answer ≡ 7 → take (12 * n) after ≡ replicate (12 * n) zero
+  pub of-18 : answer ≡ 18 → take (12 * n) after ≡ replicate (12 * n) zero
+  -- the planes in the first 6n numbers, in the neighbours' order, point before normal; +0 in the next 6n
+  pub of-0 : answer ≡ 0 → take (6 * n) after ≡ numbersOfPlanes planes
+  pub zeros-of-0 : answer ≡ 0 → take (6 * n) (drop (6 * n) after) ≡ replicate (6 * n) zero
+  -- whatever the answer, what stands past the first 12n numbers is never touched
+  pub past : drop (12 * n) after ≡ drop (12 * n) before
+
+-- Every call leaves in scratch what document 01 says: untouched for 1 to 5 and 17, +0 in the first 12n numbers for 6, 7 and 18, planes and +0 for 0; nothing past them.
+abbrev pub ScratchByAnswer : Type 0
+ScratchByAnswer =
+    (request : Request) (neighbours scratch : List Float)
+    → ScratchLeft (agentCount neighbours) (planesOfCall request neighbours) (number (velocityCall request neighbours (length scratch))) scratch (scratchAfter request neighbours scratch)
+
+-- What the promise of `velocity` says of its reply and of scratch after.
+abbrev pub Meets : Request → List Float → List Float → Reply → List Float → Type 0
+Meets request neighbours scratch reply after = (reply ≡ velocityCall request neighbours (length scratch)) × (after ≡ scratchAfter request neighbours scratch)
+
+-- What scratch held before alters no answer: two calls that meet the promise, with as many numbers of scratch, reply alike.
+abbrev pub ScratchUnread : Type 0
+ScratchUnread =
+    (request : Request) (neighbours scratch scratch′ after after′ : List Float) (reply reply′ : Reply) → length scratch ≡ length scratch′
+    → Meets request neighbours scratch reply after → Meets request neighbours scratch′ reply′ after′ → reply ≡ reply′
+
+-- Two calls that meet the promise on the same inputs reply alike and leave the same in scratch.
+abbrev pub SameCall : Type 0
+SameCall =
+    (request : Request) (neighbours scratch after after′ : List Float) (reply reply′ : Reply)
+    → Meets request neighbours scratch reply after → Meets request neighbours scratch reply′ after′ → (reply ≡ reply′) × (after ≡ after′)
+
+-- An answer given with some scratch is given with any scratch of 12 numbers for each neighbour, or more.
+abbrev pub AnyScratch : Type 0
+AnyScratch =
+    (request : Request) (neighbours : List Float) (some enough : ℕ) → 12 * agentCount neighbours ≤ enough → isAnswered (velocityCall request neighbours some) ≡ true
+    → velocityCall request neighbours enough ≡ velocityCall request neighbours some
+
+-- ---- what an answer is
+
+-- The velocity of an answer is finite.
+abbrev pub AnswerFinite : Type 0
+AnswerFinite =
+    (request : Request) (neighbours : List Float) (scratchLength : ℕ) → isAnswered (velocityCall request neighbours scratchLength) ≡ true
+    → finiteVec (velocityOf (velocityCall request neighbours scratchLength)) ≡ true
+
+-- The velocity of every reply is three binary32 numbers, where the preferred one is.
+abbrev pub AnswerIsBinary32 : Type 0
+AnswerIsBinary32 =
+    (request : Request) (neighbours : List Float) (scratchLength : ℕ) → IsBinary32 (request .preferred)
+    → IsBinary32 (velocityOf (velocityCall request neighbours scratchLength))
+
+-- A zero component of a velocity is +0, of every reply.
+abbrev pub NoMinusZero : Type 0
+NoMinusZero =
+    (request : Request) (neighbours : List Float) (scratchLength : ℕ)
+    → let velocity = velocityOf (velocityCall request neighbours scratchLength) in
+    (eq (velocity .x) zero ≡ true → velocity .x ≡ zero)
+    × (eq (velocity .y) zero ≡ true → velocity .y ≡ zero)
+    × (eq (velocity .z) zero ≡ true → velocity .z ≡ zero)
+
+-- An answer is relaxed from plane k exactly when the 3D program is infeasible at k, with some value, on the neighbours' planes within the maximum speed.
+abbrev pub RelaxedExactly : Type 0
+RelaxedExactly =
+    (request : Request) (neighbours : List Float) (scratchLength : ℕ) → isAnswered (velocityCall request neighbours scratchLength) ≡ true → (k : ℕ)
+    → (relaxedOf (velocityCall request neighbours scratchLength) ≡ At k)
+    ↔ ((v : Vec3) × (threeD (planesOfCall request neighbours) (request .«max_speed») (sought request) ≡ infeasibleAt k v))
+
+-- ---- neighbours that are unseen: document 02's [6]
+
+-- With a fallback that the velocity call accepts, a neighbour is unseen exactly where the three numbers of its plane's normal are zeros.
+abbrev pub ZeroNormal : Type 0
+ZeroNormal =
+    (agent neighbour : Agent) (horizon timeStep : Float) (fallback : Vec3) → badFallback fallback ≡ false
+    → planeFor agent neighbour horizon timeStep fallback .unseen ≡ allZero (planeFor agent neighbour horizon timeStep fallback .plane .normal)
+
+abbrev pub zeroNormal : ℕ → Plane → Bool
+zeroNormal neighbour plane = allZero (plane .normal)
+
+-- Whom a reply names, of neighbours with these planes.
+pub record NamesUnseen (planes : List Plane) (reply : Reply) : Type 0 where
+  -- an answer names a neighbour exactly where its plane has a zero normal and that of no lower one has
+  pub named : isAnswered reply ≡ true → (neighbour : ℕ) (d : Plane) → (unseenOf reply ≡ At neighbour) ↔ Lowest zeroNormal 0 planes d neighbour
+  -- and none exactly where no plane has
+  pub none : isAnswered reply ≡ true → (d : Plane) → (unseenOf reply ≡ Nothing) ↔ ((neighbour : ℕ) → neighbour < length planes → allZero (getD planes neighbour d .normal) ≡ false)
+  -- a refusal names none
+  pub refused : isAnswered reply ≡ false → unseenOf reply ≡ Nothing
+
+-- An answer names as unseen the lowest neighbour whose plane has a zero normal, and none exactly where there is none; a refusal names none.
+abbrev pub UnseenLowest : Type 0
+UnseenLowest = (request : Request) (neighbours : List Float) (scratchLength : ℕ) → NamesUnseen (planesOfCall request neighbours) (velocityCall request neighbours scratchLength)
+
+-- ---- examples
+
+-- Document 01's worked examples marked P, all of them: each of Examples.antt holds.
+abbrev pub WorkedExamples : Type 0
+WorkedExamples = All examples
