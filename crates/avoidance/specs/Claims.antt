@@ -32,13 +32,13 @@ use Rattle.avoidance.specs.Examples.{All, examples}
 
 -- ---- which answer
 
--- For every number above 0: the velocity call answers it exactly when its condition is the first that holds.
+-- For every n above 0 the velocity call answers n exactly when n's condition is the first that holds.
 abbrev pub RefusedExactly : Type 0
 RefusedExactly =
     (request : Request) (neighbours : List Float) (scratchLength n : ℕ) → 0 < n
     → (number (velocityCall request neighbours scratchLength) ≡ n) ↔ First n (velocityConditions request neighbours scratchLength)
 
--- It answers 0 exactly when none of the conditions holds.
+-- The velocity call answers 0 exactly when none of the conditions holds.
 abbrev pub AnsweredExactly : Type 0
 AnsweredExactly =
     (request : Request) (neighbours : List Float) (scratchLength : ℕ)
@@ -60,25 +60,26 @@ RefusedZeros = (reply : Reply) → ¬ (number reply ≡ 0) → velocityOf reply 
 abbrev pub sought : Request → Optimum
 sought request = Point (request .preferred .x) (request .preferred .y) (request .preferred .z)
 
--- What the place is, by the answer's number.
+-- What the place is, by the answer's number. The call's numbers are the request's 17 and then the neighbours', 8 each.
 pub record Placed (request : Request) (neighbours : List Float) (answer place : ℕ) : Type 0 where
-  -- none
+  -- no place
   pub of-0 : answer ≡ 0 → place ≡ 0
   pub of-1 : answer ≡ 1 → place ≡ 0
-  pub of-7 : answer ≡ 7 → place ≡ 0
-  -- how many neighbours there are
-  pub of-17 : answer ≡ 17 → place ≡ agentCount neighbours
-  -- how many numbers of scratch it takes
+  -- the scratch that is needed, 12 numbers for each neighbour
   pub of-2 : answer ≡ 2 → place ≡ 12 * agentCount neighbours
-  -- among the call's numbers, which are the request's 17 and then the neighbours', 8 each: the one there is not finite, or out of its range, and none at a lower
-  -- place is
+  -- the lowest bad number: of the call's numbers the one there is not finite, and none at a lower place is so
   pub of-3 : answer ≡ 3 → Lowest (badNumber Finite) 0 (callNumbers request neighbours) nan place
+  -- the one there is out of its range, and none at a lower place is so
   pub of-4 : answer ≡ 4 → Lowest (badNumber InRange) 0 (callNumbers request neighbours) nan place
   -- the fallback's first number
   pub of-5 : answer ≡ 5 → place ≡ 14
-  -- the plane of the neighbour there has a component that is not finite, and that of no lower neighbour has (d is never read)
+  -- the lowest neighbour with a bad plane: that of the one there has a component that is not finite, and that of no lower one has
   pub of-6 : answer ≡ 6 → (d : Plane) → Lowest badPlane 0 (planesOfCall request neighbours) d place
-  -- the 3D program comes to the plane there, and solving on that plane meets a bad clamp
+  -- no place
+  pub of-7 : answer ≡ 7 → place ≡ 0
+  -- how many neighbours there are
+  pub of-17 : answer ≡ 17 → place ≡ agentCount neighbours
+  -- the plane that 3D was solving on: the program comes to the plane there, with some value, and solving on it meets a bad clamp
   pub of-18 : answer ≡ 18 → (v : Vec3) × ComesTo (planesOfCall request neighbours) (request .«max_speed») (sought request) place v onPlane.BadClamp
 
 -- The place of every answer is document 01's, and of 17 and 18 document 02's.
@@ -89,8 +90,11 @@ PlacesByAnswer =
 
 -- ---- scratch
 
--- What stands in scratch after, by the answer's number, for n neighbours whose planes are these.
+-- What stands in scratch after the call, by the answer's number, where it held `before`. There are n neighbours, whose planes these are.
 pub record ScratchLeft (n : ℕ) (planes : List Plane) (answer : ℕ) (before after : List Float) : Type 0 where
+  -- the planes in the first 6n numbers, in the neighbours' order, point before normal; and +0 in the next 6n
+  pub of-0 : answer ≡ 0 → take (6 * n) after ≡ numbersOfPlanes planes
+  pub next-of-0 : answer ≡ 0 → take (6 * n) (drop (6 * n) after) ≡ replicate (6 * n) zero
   -- untouched
   pub of-1 : answer ≡ 1 → after ≡ before
   pub of-2 : answer ≡ 2 → after ≡ before
@@ -102,13 +106,11 @@ pub record ScratchLeft (n : ℕ) (planes : List Plane) (answer : ℕ) (before af
   pub of-6 : answer ≡ 6 → take (12 * n) after ≡ replicate (12 * n) zero
   pub of-7 : answer ≡ 7 → take (12 * n) after ≡ replicate (12 * n) zero
   pub of-18 : answer ≡ 18 → take (12 * n) after ≡ replicate (12 * n) zero
-  -- the planes in the first 6n numbers, in the neighbours' order, point before normal; +0 in the next 6n
-  pub of-0 : answer ≡ 0 → take (6 * n) after ≡ numbersOfPlanes planes
-  pub zeros-of-0 : answer ≡ 0 → take (6 * n) (drop (6 * n) after) ≡ replicate (6 * n) zero
-  -- whatever the answer, what stands past the first 12n numbers is never touched
+  -- whatever the answer, the numbers past 12n are untouched
   pub past : drop (12 * n) after ≡ drop (12 * n) before
 
--- Every call leaves in scratch what document 01 says: untouched for 1 to 5 and 17, +0 in the first 12n numbers for 6, 7 and 18, planes and +0 for 0; nothing past them.
+-- Every call leaves in scratch what document 01 says: planes and +0s for 0, what it held for 1 to 5 and 17, +0s in the first 12n numbers for 6, 7 and 18. Past these no
+-- number is ever touched.
 abbrev pub ScratchByAnswer : Type 0
 ScratchByAnswer =
     (request : Request) (neighbours scratch : List Float)
@@ -133,8 +135,8 @@ SameCall =
 -- An answer given with some scratch is given with any scratch of 12 numbers for each neighbour, or more.
 abbrev pub AnyScratch : Type 0
 AnyScratch =
-    (request : Request) (neighbours : List Float) (some enough : ℕ) → 12 * agentCount neighbours ≤ enough → isAnswered (velocityCall request neighbours some) ≡ true
-    → velocityCall request neighbours enough ≡ velocityCall request neighbours some
+    (request : Request) (neighbours : List Float) (given enough : ℕ) → 12 * agentCount neighbours ≤ enough → isAnswered (velocityCall request neighbours given) ≡ true
+    → velocityCall request neighbours enough ≡ velocityCall request neighbours given
 
 -- ---- what an answer is
 
@@ -159,7 +161,8 @@ NoMinusZero =
     × (eq (velocity .y) zero ≡ true → velocity .y ≡ zero)
     × (eq (velocity .z) zero ≡ true → velocity .z ≡ zero)
 
--- An answer is relaxed from plane k exactly when the 3D program is infeasible at k, with some value, on the neighbours' planes within the maximum speed.
+-- An answer is relaxed from plane k exactly when the 3D program, on the neighbours' planes, within the maximum speed and with the preferred velocity sought, is
+-- infeasible at k with some value.
 abbrev pub RelaxedExactly : Type 0
 RelaxedExactly =
     (request : Request) (neighbours : List Float) (scratchLength : ℕ) → isAnswered (velocityCall request neighbours scratchLength) ≡ true → (k : ℕ)

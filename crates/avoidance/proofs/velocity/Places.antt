@@ -147,13 +147,13 @@ module _ (request : Request) (neighbours : List Float) where
   placed answer place is = record {
     of-0 = of 0;
     of-1 = of 1;
-    of-7 = of 7;
-    of-17 = of 17;
     of-2 = of 2;
     of-3 = of 3;
     of-4 = of 4;
     of-5 = of 5;
     of-6 = of 6;
+    of-7 = of 7;
+    of-17 = of 17;
     of-18 = of 18;
   }
     where
@@ -248,6 +248,8 @@ module _ (request : Request) (neighbours scratch : List Float) where
 
   left-after : (answer : ℕ) (after : List Float) → after ≡ leftBy answer → ScratchLeft many planes answer scratch after
   left-after answer after is = record {
+    of-0 = λ e. ap (take (6 * many)) (of 0 e) ∙ planes-first;
+    next-of-0 = λ e. ap (λ (xs : List Float). take (6 * many) (drop (6 * many) xs)) (of 0 e) ∙ zeros-next;
     of-1 = of 1;
     of-2 = of 2;
     of-3 = of 3;
@@ -257,8 +259,6 @@ module _ (request : Request) (neighbours scratch : List Float) where
     of-6 = λ e. ap (take (12 * many)) (of 6 e) ∙ zeros-first;
     of-7 = λ e. ap (take (12 * many)) (of 7 e) ∙ zeros-first;
     of-18 = λ e. ap (take (12 * many)) (of 18 e) ∙ zeros-first;
-    of-0 = λ e. ap (take (6 * many)) (of 0 e) ∙ planes-first;
-    zeros-of-0 = λ e. ap (λ (xs : List Float). take (6 * many) (drop (6 * many) xs)) (of 0 e) ∙ zeros-next;
     past = ap (drop (12 * many)) is ∙ past-kept (eqb answer 0) (clears answer);
   }
     where
