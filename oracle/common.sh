@@ -16,6 +16,8 @@ server=()
 program=()
 # The one that makes the fleet table's calls; build_replay sets it.
 replay=()
+# Which glam the published Rust is compiled over, in words; lay_out_glam sets it.
+glam=''
 
 # stop WHY: ends the script as one that was called wrongly, or lacks something.
 stop() {
@@ -105,6 +107,50 @@ lay_out_published() {
     lay_out_digits
 }
 
+# Writes the manifest of glam where oracle/dodgy_3d/Cargo.toml has it, below target/, and sets `glam`. It has the path of the
+# source: glam's own as published, read where it stands, or the stand-in's where that is missing. GLAM_SRC=oracle/glam asks
+# for the stand-in.
+lay_out_glam() {
+    local stand_in=oracle/glam from=${GLAM_SRC:-../shared/docs/src/glam-0.30.1} to=$built/glam
+    local new=$to/Cargo.toml.new
+    if [ -f "$from/src/f32/vec3.rs" ]; then
+        (cd "$from/src" && sha256sum --check --quiet -) <"$stand_in/published.sha256" >&2 ||
+            stop "the files in $from/src are not those of glam 0.30.1."
+        glam="glam 0.30.1, its published source in $from"
+    elif [ "$from" -ef "$stand_in" ]; then
+        glam="$stand_in, a stand-in for glam"
+    elif [ -z "${GLAM_SRC:-}" ]; then
+        glam="$stand_in, a stand-in for glam, whose published source is not in $from; GLAM_SRC may name another place"
+        from=$stand_in
+    else
+        stop "GLAM_SRC is $from, which has no src/f32/vec3.rs in it: it is the folder of glam 0.30.1, or $stand_in."
+    fi
+    mkdir -p "$to"
+    # One name and version for both, as oracle/Cargo.lock has them. Of glam's features it has the one that is on by default.
+    cat >"$new" <<END
+[package]
+name = "glam"
+version = "0.0.0"
+edition = "2021"
+publish = false
+
+[lib]
+path = '$(realpath "$from/src/lib.rs")'
+test = false
+doctest = false
+
+[features]
+default = ["std"]
+std = []
+
+[lints.rust]
+# the features that are not here
+unexpected_cfgs = "allow"
+END
+    changed "$to/Cargo.toml" "$new"
+    rm "$new"
+}
+
 # with_digits FROM TO COUNT: makes TO what FROM is, but with its square roots, which are COUNT, taken by oracle/digits.
 with_digits() {
     local from=$1 to=$2 count=$3 new=$2.new found
@@ -119,21 +165,23 @@ with_digits() {
 }
 
 # Lays the published files out once more, and the stand-in for glam, where oracle/dodgy_3d_digits and oracle/glam_digits have
-# them: the same but for the square roots.
+# them: the same but for the square roots. It is the stand-in in any case, since its one file is all that has to be changed.
 lay_out_digits() {
-    local from=$built/dodgy_3d to=$built/dodgy_3d_digits glam=$built/glam_digits
-    mkdir -p "$to/src" "$glam/src"
+    local from=$built/dodgy_3d to=$built/dodgy_3d_digits vectors=$built/glam_digits
+    mkdir -p "$to/src" "$vectors/src"
     with_digits "$from/src/lib.rs" "$to/src/lib.rs" 2
     with_digits "$from/src/linear_programming.rs" "$to/src/linear_programming.rs" 3
-    with_digits oracle/glam/src/lib.rs "$glam/src/lib.rs" 1
+    with_digits oracle/glam/src/lib.rs "$vectors/src/lib.rs" 1
     changed "$to/src/simulator.rs" "$from/src/simulator.rs"
     changed "$to/README.md" /dev/null
 }
 
-# Builds the programs of oracle/Cargo.toml, offline.
+# Builds the programs of oracle/Cargo.toml, offline, and first says which glam the published Rust is compiled over.
 build_programs() {
     need_cargo
     lay_out_published
+    lay_out_glam
+    echo "The published Rust is compiled over $glam."
     cargo build --quiet --release --offline --locked --manifest-path oracle/Cargo.toml --target-dir "$built/cargo"
 }
 

@@ -1,7 +1,6 @@
-//! A stand-in for glam, which was not to be had: the operations on `Vec3` that dodgy_3d's three files
-//! use, and no others. The products, lengths and normalizations are document 01's lines (module 1), one
-//! rounding for each operation and none fused; the rest is how the operators read. docs/DIFFERENCES.md
-//! lists them: what is compared by means of this crate says nothing about glam itself.
+//! A stand-in for glam where its published source is not at hand: the operations on `Vec3` that dodgy_3d's three files use,
+//! and no others. The products, lengths and normalizations are document 01's lines (module 1), one rounding for each
+//! operation and none fused; the rest is how the operators read. docs/DIFFERENCES.md holds them against glam's own.
 //!
 //! All are marked `#[inline]`: unmarked, a function is inlined in another crate only where it calls nothing, so that the
 //! copy whose root is a call (../../common.sh, `with_digits`) would be timed with calls that this one has not.
