@@ -52,7 +52,7 @@ pub fn caught<T>(f: impl FnOnce() -> T) -> Result<T, String> {
 call_of!(dodgy_3d);
 
 impl Call {
-    fn with_planes(&self, neighbours: &[Cow<'_, Agent>]) -> (Vec3, Vec<Plane>) {
+    pub fn with_planes(&self, neighbours: &[Cow<'_, Agent>]) -> (Vec3, Vec<Plane>) {
         self.agent.compute_avoiding_velocity_with_debug(
             neighbours,
             self.preferred,
@@ -102,7 +102,7 @@ fn unseen(planes: impl Iterator<Item = [f32; PLANE]>) -> u64 {
     first.map_or(NO_NEIGHBOUR, |(neighbour, _)| neighbour as u64)
 }
 
-fn components(plane: &Plane) -> [f32; PLANE] {
+pub fn components(plane: &Plane) -> [f32; PLANE] {
     let (p, n) = (plane.point, plane.normal);
     [p.x, p.y, p.z, n.x, n.y, n.z]
 }
