@@ -2,6 +2,7 @@
 use crate::case::*;
 use crate::published::BY_CHANCE;
 use crate::random::Random;
+use crate::ties;
 
 #[derive(Clone, Copy, PartialEq, Eq, Debug)]
 pub enum Kind {
@@ -20,9 +21,19 @@ pub enum Kind {
     /// A hangar or a grid with neighbours flown at straight, past the tangent ring, where no normal can be
     /// made.
     HeadOn,
+    /// A number that is compared with epsilon is that to the bit: on a plane, the square of a cross product.
+    TieOnPlane,
+    /// Along a line, the square of its direction's product with a normal.
+    TieAlongLine,
+    /// Along a line, how far a parallel plane lies from it: -epsilon.
+    TieNumerator,
+    /// On a plane of the 4D program, the square of what is left of the direction there.
+    TieProjection,
+    /// In the 4D program itself, the square of a cross product.
+    TieTurned,
 }
 
-pub const KINDS: [Kind; 7] = [
+pub const KINDS: [Kind; 12] = [
     Kind::Hangar,
     Kind::Crowd,
     Kind::Grid,
@@ -30,6 +41,11 @@ pub const KINDS: [Kind; 7] = [
     Kind::Bits,
     Kind::Damaged,
     Kind::HeadOn,
+    Kind::TieOnPlane,
+    Kind::TieAlongLine,
+    Kind::TieNumerator,
+    Kind::TieProjection,
+    Kind::TieTurned,
 ];
 
 /// The kinds in the proportion in which they are drawn.
@@ -55,6 +71,15 @@ const SHARES: [Kind; 16] = [
 /// One number in so many, with this remainder, is a head-on case, whatever is drawn. No case of the stored
 /// lists has such a number but the head-on ones.
 const HEAD_ON: [u64; 2] = [48, 34];
+/// The same of ties, of each kind in turn.
+const TIED: [u64; 2] = [96, 17];
+const TIES: [Kind; 5] = [
+    Kind::TieOnPlane,
+    Kind::TieAlongLine,
+    Kind::TieNumerator,
+    Kind::TieProjection,
+    Kind::TieTurned,
+];
 
 /// The case of a number.
 pub fn draw(seed: u64, index: u64) -> (Kind, Case) {
@@ -62,6 +87,8 @@ pub fn draw(seed: u64, index: u64) -> (Kind, Case) {
     let drawn = random.pick(&SHARES);
     let kind = if index % HEAD_ON[0] == HEAD_ON[1] {
         Kind::HeadOn
+    } else if index % TIED[0] == TIED[1] {
+        TIES[(index / TIED[0]) as usize % TIES.len()]
     } else {
         drawn
     };
@@ -83,6 +110,11 @@ fn of_kind(random: &Random, kind: Kind, count: usize) -> Case {
         Kind::Bits => lend(random, bits(random, count)),
         Kind::Damaged => damaged(random, count),
         Kind::HeadOn => lend(random, head_on(random, count)),
+        Kind::TieOnPlane => lend(random, ties::on_plane(random)),
+        Kind::TieAlongLine => lend(random, ties::along_line(random)),
+        Kind::TieNumerator => lend(random, ties::numerator(random)),
+        Kind::TieProjection => lend(random, ties::projection(random)),
+        Kind::TieTurned => lend(random, ties::turned(random)),
     }
 }
 
@@ -98,13 +130,14 @@ fn count(random: &Random) -> usize {
 }
 
 /// The numbers of a call.
-struct Draft {
-    request: [f32; REQUEST],
-    neighbours: Vec<[f32; AGENT]>,
+#[derive(Clone)]
+pub(crate) struct Draft {
+    pub request: [f32; REQUEST],
+    pub neighbours: Vec<[f32; AGENT]>,
 }
 
 impl Draft {
-    fn of(
+    pub fn of(
         agent: [f32; AGENT],
         preferred: [f32; 3],
         max_speed: f32,
@@ -149,7 +182,7 @@ fn is_fallback(place: usize) -> bool {
 }
 
 /// Lends memory to a call: scratch that is just long enough or longer, and holds anything.
-fn lend(random: &Random, draft: Draft) -> Case {
+pub(crate) fn lend(random: &Random, draft: Draft) -> Case {
     let needed = SCRATCH * draft.neighbours.len();
     let length = needed
         + if random.one_in(3) {
@@ -170,13 +203,18 @@ fn vector(mut component: impl FnMut() -> f32) -> [f32; 3] {
     [component(), component(), component()]
 }
 
-fn agent(position: [f32; 3], velocity: [f32; 3], radius: f32, responsibility: f32) -> [f32; AGENT] {
+pub(crate) fn agent(
+    position: [f32; 3],
+    velocity: [f32; 3],
+    radius: f32,
+    responsibility: f32,
+) -> [f32; AGENT] {
     let ([x, y, z], [u, v, w]) = (position, velocity);
     [x, y, z, u, v, w, radius, responsibility]
 }
 
 /// A drone within a box, no faster than `speed` along any axis.
-fn drone(random: &Random, half: [f32; 3], speed: f32, radius: [f32; 2]) -> [f32; AGENT] {
+pub(crate) fn drone(random: &Random, half: [f32; 3], speed: f32, radius: [f32; 2]) -> [f32; AGENT] {
     let position = half.map(|h| random.between(-h, h));
     let velocity = vector(|| random.between(-speed, speed));
     let responsibility = match random.below(4) {
@@ -250,7 +288,7 @@ fn whole_agent(random: &Random, most: i32, flat: usize) -> [f32; AGENT] {
 
 /// A fallback: half of the time the one with which the Rust can be compared where it takes a direction by
 /// chance.
-fn fallback(random: &Random) -> [f32; 3] {
+pub(crate) fn fallback(random: &Random) -> [f32; 3] {
     match random.below(4) {
         0 => axis(random),
         1 => random.direction(),

@@ -34,4 +34,5 @@ pub mod simulated;
 pub mod spacing;
 pub mod spacing_report;
 pub mod stored;
+mod ties;
 pub mod times;

@@ -64,7 +64,7 @@ impl Call {
 
     /// The planes, from calls with one neighbour each: with one plane no line is solved, so no clamp can
     /// panic.
-    fn planes_one_by_one(&self) -> Vec<Plane> {
+    pub fn planes_one_by_one(&self) -> Vec<Plane> {
         self.borrowed()
             .chunks(1)
             .flat_map(|neighbour| self.with_planes(neighbour).1)
