@@ -23,10 +23,10 @@ that is empty or starts with # is passed over. A line is printed for each case:
     NAME: DIFFERENT, got NUMBER PLACE PLANE UNSEEN X Y Z INDEX
 INDEX is where scratch first differs, or its length; for no PLANE and no UNSEEN
 stands 18446744073709551615. What can't be read is said where it stands:
-    malformed line N of FILE
+    malformed line N of FILE                         NO CASES in FILE
     unreadable FILE      unreadable FILE: has more than 65536 bytes
-At the end stand the counts: \"436 cases, 0 different, 0 malformed lines\". The
-reasons, and a write that fails, which ends the run, are on standard error.
+The last line counts: \"9 cases, 0 different, 0 malformed lines\". It may be \"NO
+CASES: nothing was compared\". Reasons and failed writes are on standard error.
 ",
     )
 }

@@ -5,9 +5,9 @@
 // published Rust gives, a file rust-KIND.txt for each kind of input, of which docs/oracle-velocity.md says how
 // they were made. It prints a line for each example, its name and `same`, or `DIFFERENT` with what was got, and
 // then how many there were. The answer is compared with its place and its velocity by bits, and scratch number
-// by number. A line that can't be read, and a file that can't be read whole, are said where they stand, so that
-// nothing is passed over in silence. The first write that fails ends the run. `--help` (`help.rt`) says all this on one
-// screen.
+// by number. A line that can't be read, a file that can't be read whole, and one that has no case (empty.txt,
+// comments.txt) are said where they stand, so that nothing is passed over in silence; a run without a case says so in
+// the place of the counts. The first write that fails ends the run. `--help` (`help.rt`) says all this on one screen.
 //
 //     velocity_vectors [FILE ..]     each file in turn; `-` is standard input
 //
@@ -283,7 +283,9 @@ fn run_input(input: i32, name: &[u8], tally: Tally) -> Tally {
     if MOST_BYTES < bytes {
         return report::after(tally, report::say_too_long(name));
     }
-    run_text(name, &space[..bytes], tally)
+    let before = tally.cases;
+    let after = run_text(name, &space[..bytes], tally);
+    report::after_file(after, name, before)
 }
 
 fn run_file(name: &[u8], tally: Tally) -> Tally {

@@ -146,7 +146,23 @@ pub(crate) fn say_too_long(name: &[u8]) -> bool {
     say_end(named, b": has more than 65536 bytes\n")
 }
 
+// Says that a file had no case, where there are no more than `before` it. A run that stops says nothing any more.
+pub(crate) fn after_file(tally: Tally, name: &[u8], before: u64) -> Tally {
+    if before < tally.cases {
+        return tally;
+    }
+    if !tally.goes_on {
+        return tally;
+    }
+    let named = with_name(Line::empty().text(b"NO CASES in "), name);
+    after(tally, say_end(named, b"\n"))
+}
+
+// Where there was no case, the counts would all be 0 and look well.
 pub(crate) fn say_tally(tally: Tally) -> bool {
+    if tally.cases == 0 {
+        return say(b"NO CASES: nothing was compared\n");
+    }
     Line::empty()
         .decimal(tally.cases)
         .text(b" cases, ")
