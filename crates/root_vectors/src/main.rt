@@ -1,9 +1,11 @@
-// Runs stored square roots through `vectors::root` and compares: the GNU C Library's, in
-// data/root-binary32.txt, and document 01's four, in data/document-01.txt. It prints a line for each
-// pair, `argument wanted got same`, with `DIFFERENT` for `same` where the last two differ, and then
-// how many there were. A line that is no pair, and a file that can't be read whole, are said where
-// they stand, so that nothing is passed over in silence. The first write that fails ends the run.
-// `--help` (`help.rt`) says all this on one screen.
+// Runs stored square roots through `vectors::root` and compares. Its arguments are the lists, of `data/`: the GNU C
+// Library's (root-binary32.txt) and document 01's four (document-01.txt). It prints a line for each pair,
+// `argument wanted got same`, with `DIFFERENT` for `same` where the last two differ, and then how many there were. A line
+// that is no pair, a list that can't be read whole, and one that has no pair (empty.txt, comments.txt) are said where
+// they stand, so that nothing is passed over in silence; a run without a pair says so in the place of the counts. The
+// first write that fails ends the run. `--help` (`help.rt`) says all this on one screen.
+//
+//     root_vectors [FILE ..]     each list in turn; `-` is standard input
 mod help;
 mod pairs;
 mod report;
@@ -63,7 +65,9 @@ fn run_input(input: i32, name: &[u8], tally: Tally) -> Tally {
     if MOST_BYTES < bytes {
         return report::after(tally, report::say_too_long(name));
     }
-    run_text(name, &space[..bytes], tally)
+    let before = tally.pairs;
+    let after = run_text(name, &space[..bytes], tally);
+    report::after_list(after, name, before)
 }
 
 fn run_file(name: &[u8], tally: Tally) -> Tally {
@@ -76,20 +80,33 @@ fn run_file(name: &[u8], tally: Tally) -> Tally {
     after
 }
 
-fn run_files() -> Tally {
-    let published = run_file(b"root-binary32.txt", report::none());
-    if !published.goes_on {
-        return published;
+// An argument that is too long for a name is read as an empty one, which no file has.
+fn run_argument(index: usize, tally: Tally) -> Tally {
+    let mut space = io::buffer();
+    let length = os::arg(index, &mut space);
+    run_file(&space[..length], tally)
+}
+
+fn run_arguments(count: usize) -> Tally {
+    let mut tally = report::none();
+    let mut index = 1;
+    while index < count {
+        tally = run_argument(index, tally);
+        if !tally.goes_on {
+            return tally;
+        }
+        index += 1;
     }
-    run_file(b"document-01.txt", published)
+    tally
 }
 
 fn main() {
-    if ask_for_help(os::arg_count()) {
+    let count = os::arg_count();
+    if ask_for_help(count) {
         help::say_help();
         return;
     }
-    let tally = run_files();
+    let tally = run_arguments(count);
     if tally.goes_on {
         report::say_tally(tally);
     }

@@ -1,8 +1,9 @@
-// What is printed, and the counts of it. A line is put together first and written at once. Each `say` answers whether
-// its line could be written.
+// What is printed, and the counts of it. A line is put together first and written at once, unless a name stands in it,
+// which may be long. Each `say` answers whether its line could be written.
 use console::Line;
 use console::output::complain;
 use console::output::complain_of;
+use console::output::say;
 
 // The run goes on until a line can't be written, which `console` says on standard error.
 pub struct Tally {
@@ -57,35 +58,45 @@ pub(crate) fn say_pair(argument: u32, wanted: u32, got: u32) -> bool {
 }
 
 pub(crate) fn say_malformed(name: &[u8], number: u64) -> bool {
-    Line::empty()
-        .text(name)
+    let rest = Line::empty()
         .text(b": no pair of words in line ")
         .decimal(number)
-        .text(b"\n")
-        .say()
+        .text(b"\n");
+    say(name) && rest.say()
+}
+
+fn say_named(start: &[u8], name: &[u8], end: &[u8]) -> bool {
+    say(start) && say(name) && say(end)
 }
 
 // The reason is said on standard error. It is that of the call just before.
 pub(crate) fn say_unreadable(name: &[u8]) -> bool {
     complain_of(name);
-    Line::empty()
-        .text(b"unreadable ")
-        .text(name)
-        .text(b"\n")
-        .say()
+    say_named(b"unreadable ", name, b"\n")
 }
 
 pub(crate) fn say_too_long(name: &[u8]) -> bool {
     complain(name);
     complain(b": has more than 4096 bytes\n");
-    Line::empty()
-        .text(b"unreadable ")
-        .text(name)
-        .text(b": has more than 4096 bytes\n")
-        .say()
+    say_named(b"unreadable ", name, b": has more than 4096 bytes\n")
 }
 
+// Says that a list had no pair, where there are no more than `before` it. A run that stops says nothing any more.
+pub(crate) fn after_list(tally: Tally, name: &[u8], before: u64) -> Tally {
+    if before < tally.pairs {
+        return tally;
+    }
+    if !tally.goes_on {
+        return tally;
+    }
+    after(tally, say_named(b"NO PAIRS in ", name, b"\n"))
+}
+
+// Where there was no pair, the counts would both be 0 and look well.
 pub(crate) fn say_tally(tally: Tally) -> bool {
+    if tally.pairs == 0 {
+        return say(b"NO PAIRS: nothing was compared\n");
+    }
     Line::empty()
         .decimal(tally.pairs)
         .text(b" pairs, ")
