@@ -588,13 +588,16 @@ fn first_bits(random: &Random) -> u32 {
     random.pick(&[random.word(), before])
 }
 
-/// Gives a record bits that a save has to keep: zeros of both signs, and any finite numbers in the words that no call
-/// reads.
+/// Gives a record bits that a save has to keep: zeros of both signs, now and then a position that stays -0, and any finite
+/// numbers in the words that no call reads.
 fn vary(random: &Random, record: &mut Record) {
     for word in &mut record.words[..HORIZON] {
         if *word == 0 && random.one_in(4) {
             *word = (-0.0f32).to_bits();
         }
+    }
+    if random.one_in(16) {
+        rest(random, record);
     }
     let unread: &[usize] = match record.words[MARGIN] {
         0 => &[OBSTACLE_HORIZON],
@@ -606,6 +609,15 @@ fn vary(random: &Random, record: &mut Record) {
             record.set(place, &[any]);
         }
     }
+}
+
+/// Has a record rest at its goal, but in one direction: there its position is -0, and the way to the goal so small that in
+/// most steps it is -0 too. So the position stays -0 where nobody is in the way.
+fn rest(random: &Random, record: &mut Record) {
+    let axis = random.below(3);
+    record.set(GOAL, &record.numbers::<3>(POSITION));
+    record.set(POSITION + axis, &[-0.0]);
+    record.set(GOAL + axis, &[-f32::from_bits(1)]);
 }
 
 /// Gives a record with a fallback along the first axis a word for which it is refused.

@@ -46,6 +46,14 @@ impl Outcome {
     }
 }
 
+/// In how many directions a position of -0 is that still.
+fn stays_minus_zero(before: &Record, after: &Record) -> u64 {
+    let minus_zero =
+        |record: &Record, at: usize| record.words[POSITION + at] == (-0.0f32).to_bits();
+    let stays = |&at: &usize| minus_zero(before, at) && minus_zero(after, at);
+    [0, 1, 2].iter().filter(|at| stays(at)).count() as u64
+}
+
 /// Whether a rule keeps another: the source rule by document 01's q, which is the Rust's, and the near rule by
 /// document 02's.
 fn keeps(rule: Rule, own: &Record, other: &Record) -> bool {
@@ -439,6 +447,11 @@ impl Fleet {
         // all but the position is as finite as before
         let astray = moved.iter().position(|record| !record.is_accepted());
         if astray.is_none() {
+            let kept = self.records.iter().zip(&moved);
+            let kept = kept
+                .map(|(before, after)| stays_minus_zero(before, after))
+                .sum();
+            self.add("position that stays -0", kept);
             self.records = moved;
         }
         if astray.is_some() || rule == Rule::Near {
