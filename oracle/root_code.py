@@ -288,6 +288,8 @@ def main():
     for name, one in zip(names, taken):
         report(name, one)
     ruled = taken[0]
+    if not ruled.instructions:
+        stop(f"{names[0]} has no instruction in the listing, so nothing was counted")
     found = {kind: of_kind(ruled.instructions, kind) for kind in FORBIDDEN}
     found["not in the file"] = ruled.outside
     faults = [f"{what}: {', '.join(sorted(which))}" for what, which in found.items() if which]

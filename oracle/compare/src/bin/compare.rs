@@ -4,7 +4,7 @@
 //!
 //! draws COUNT cases, has COMMAND, the server, make the calls, and compares: the answer with its place,
 //! the velocity as numbers, its zeros as +0, the relaxed plane, the unseen neighbour, and scratch number by number, planes by
-//! their bits. The last line counts. The exit status is 0 only where nothing differs.
+//! their bits. The last line counts. The exit status is 0 only where something was compared and nothing differs.
 use std::process::ExitCode;
 use std::{env, io};
 
@@ -184,6 +184,10 @@ fn main() -> ExitCode {
     });
     match result {
         Ok((tally, well)) => {
+            if tally.cases == tally.left_out {
+                println!("seed {seed}: NO CASES: nothing was compared");
+                return ExitCode::FAILURE;
+            }
             println!("seed {seed}: {}", tally.line());
             if well && tally.cases == count && tally.different == 0 {
                 ExitCode::SUCCESS

@@ -67,6 +67,9 @@ fn write(seed: u64, folder: &str) -> io::Result<()> {
     for kind in KINDS {
         let cases = taken(seed, kind);
         let (name, count) = (format!("rust-{kind:?}.txt").to_lowercase(), cases.len());
+        if count == 0 {
+            return Err(io::Error::other(format!("{name} would have no case")));
+        }
         let head = format!(
             "# {count} velocity calls that oracle/sample drew, of the kind {kind:?} and seed {seed}, each \
              with what the published\n# Rust and document 01 make of it. A case's number is the one that it \

@@ -4,7 +4,7 @@
 //!
 //! draws so many fleet files, has COMMAND, the program tenticks, read each, and compares what it writes byte by byte:
 //! the fleet after ten ticks by the near rule, or the line of the first refused call. The last line counts. The exit
-//! status is 0 only where nothing differs.
+//! status is 0 only where something was compared and nothing differs.
 use std::process::ExitCode;
 use std::{env, io};
 
@@ -156,6 +156,10 @@ fn main() -> ExitCode {
     catch_quietly();
     match compare(seed, fleets, &words[2..]) {
         Ok(tally) => {
+            if tally.fleets == 0 {
+                println!("seed {seed}: NO FLEETS: nothing was compared");
+                return ExitCode::FAILURE;
+            }
             println!("seed {seed}: {}", tally.line());
             if tally.different == 0 {
                 ExitCode::SUCCESS

@@ -5,7 +5,7 @@
 //! draws flights until so many ticks have been closed, has COMMAND, the program replay, make their calls, and
 //! compares every line with what has to come: each plan's answer, and after every tick each agent's words. It has them
 //! made in the canonical order too, and compares the fleets after every tick. The last line counts. The exit status is
-//! 0 only where nothing differs.
+//! 0 only where something was compared and nothing differs.
 use std::process::ExitCode;
 use std::{env, io};
 
@@ -213,6 +213,10 @@ fn main() -> ExitCode {
     catch_quietly();
     match compare(seed, ticks, &words[2..]) {
         Ok(tally) => {
+            if tally.flights == 0 {
+                println!("seed {seed}: NO FLIGHTS: nothing was compared");
+                return ExitCode::FAILURE;
+            }
             println!("seed {seed}: {}", tally.line());
             if tally.different == 0 {
                 ExitCode::SUCCESS
