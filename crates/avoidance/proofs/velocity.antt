@@ -4,3 +4,4 @@ pub mod Passing
 pub mod FitCalls
 pub mod Places
 pub mod Unseen
+pub mod CallLaws
