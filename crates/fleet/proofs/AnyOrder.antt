@@ -1,13 +1,16 @@
 -- Demand 3: within a tick planners and goal setters may call in any order, with repeats and refused calls.
---     any-order: a tick's calls, up to the first close that is accepted, come to what the canonical run comes to
---     standing-plans: each plan among them that is accepted is demand 2's, on the records as they stood at the opening
---     standing-kept: the records that stand after any of them are those at the opening
+--     demand-three: up to the first close that is accepted, each plan that is accepted is demand 2's on the records as they stood at the opening,
+--     and the table afterwards is the one that the canonical run leaves
 --     any-order-dropped: the same for calls that end in drop: nobody is moved, and the accepted goal calls are taken up
+--     plan-repeated: a plan repeated with enough scratch answers the same
 --     order-unseen: two runs of one opening with the same accepted goal calls close to the same table
+--     answered-in-turn: an answer in a run is the one after the calls before it
 --     refused-unseen: what a refused call said has no effect on anything after it
+--     standing-kept: the records that stand after calls that keep the tick open are those at the opening
 use mathlib.Core.Path.{_≡_, refl, sym, ap, _∙_, subst}
 use mathlib.Core.Bool.{Bool, true, false}
 use mathlib.Core.List.{List, [], _∷_, _++_}
+use mathlib.Core.Logic.{inl, inr}
 use Prim.Native.Nat.{ℕ, zero, suc, _+_, _<_, _≤_}
 use native.Mathlib.Nat.{not-suc-le-zero}
 use native.Mathlib.Omega.{arith}
@@ -18,13 +21,16 @@ use lib.Ieee.{Float}
 use borrow.Author.Tests.{eqb-true, eqb-false}
 use Rattle.vectors.specs.declared.Vec3.{Vec3}
 use Rattle.vectors.specs.Number.{zero as zero32}
-use Rattle.vectors.proofs.Truth.{no-truth}
+use Rattle.vectors.proofs.Truth.{no-truth, both}
 use Rattle.refusals.specs.declared.Verdict.{Verdict}
+use Rattle.avoidance.specs.declared.Reply.{Reply}
 use Rattle.avoidance.specs.Checks.{fullScratch}
+use Rattle.avoidance.specs.Reply.{renamed}
+use Rattle.avoidance.proofs.velocity.CallLaws.{enough-scratch}
 use Rattle.records.specs.declared.Record.{Record}
 use Rattle.records.specs.Record.{mostAgents}
+use Rattle.records.specs.Checks.{indexAmong}
 use Rattle.fleet.specs.declared.Answer.{Answer}
-use Rattle.fleet.specs.declared.Answer.the-variants as answer
 use Rattle.fleet.specs.declared.Rule.{Rule}
 use Rattle.fleet.specs.declared.Held.the-variants.{Nothing}
 use Rattle.fleet.specs.declared.Slot.{Slot}
@@ -33,15 +39,16 @@ use Rattle.fleet.specs.declared.Fleet.{Fleet}
 use Rattle.fleet.specs.Answer.{number}
 use Rattle.fleet.specs.Table.{agents, nothingHeld, holdingNothing, fleetOf, settled}
 use Rattle.fleet.specs.Tick.{openVerdict, openCall, withHeld, goalsTaken, ended, hasPlan, arrivals, allMoved, closeVerdict}
-use Rattle.fleet.specs.Plan.{replyFor, planIn, planCall}
+use Rattle.fleet.specs.Plan.{requestFor, ownRecord, neighbourIndices, neighboursOf, replyFor, planIn, planCall}
 use Rattle.fleet.specs.Calls.{Call, step}
-use Rattle.fleet.specs.Runs.{after, run, accepted, staysOpen, goalsOf, goalCalls, inOrder, canonical}
+use Rattle.fleet.specs.Runs.{after, run, accepted, stays, staysOpen, goalIn, goalsOf, goalCalls, inOrder, canonical}
+use Rattle.fleet.specs.Claims.{WholeFleet, openedOn, InTick, PlansStand, DemandThree, AnyOrderDropped, PlanRepeated, OrderUnseen, AnsweredInTurn, RefusedUnseen}
 use Rattle.fleet.proofs.Lists.{take-same}
 use Rattle.fleet.proofs.Each.{each-length, each-same}
 use Rattle.fleet.proofs.Verdicts.{settled-passes}
 use Rattle.fleet.proofs.HeldGoals.{slot, holdAll, applied, allFit, held-length, taken-applied, taken-none, goals-shut}
 use Rattle.fleet.proofs.Refusals.{refused-unchanged}
-use Rattle.fleet.proofs.InTick.{state, agents-are, due, Can, full, Reached, calls-lead, one-planned, accepted-close, closed, all-planned, plan-answer, dropped}
+use Rattle.fleet.proofs.InTick.{state, agents-are, due, Can, full, Reached, call-leads, calls-lead, one-planned, answerBy, accepted-by, accepted-close, closed, all-planned, plan-answer, dropped}
 
 pub after-append : (fleet : Fleet) (calls more : List Call) → after fleet (calls ++ more) ≡ after (after fleet calls) more
 unfolding after
@@ -118,12 +125,26 @@ module _ (rs : List Record) (timeStep : Float) (rule : Rule) (few : length rs �
   unfolding opening
   agents-open = agents-are rs timeStep rule few nothingHeld nothingHeld
 
-  -- a plan that is accepted, wherever the calls have led
-  plan-here : (gs : List (ℕ × Vec3)) (fleet : Fleet) → Reached rs timeStep rule few gs fleet → (index : ℕ) (scratch : List Float) → accepted fleet (Call.plan index scratch) ≡ true
-      → step fleet (Call.plan index scratch) .answer ≡ answer.Plan (replyFor timeStep rule rs index (length scratch))
+  -- a plan, wherever the calls have led
+  plan-here : (gs : List (ℕ × Vec3)) (fleet : Fleet) → Reached rs timeStep rule few gs fleet → (index : ℕ) (scratch : List Float)
+      → step fleet (Call.plan index scratch) .answer ≡ answerBy (indexAmong (length rs) index) (replyFor timeStep rule rs index (length scratch))
   plan-here gs fleet reached index scratch =
-      subst (λ (g : Fleet). accepted g (Call.plan index scratch) ≡ true → step g (Call.plan index scratch) .answer ≡ answer.Plan (replyFor timeStep rule rs index (length scratch)))
-      (sym (reached .is)) (plan-answer rs timeStep rule few (reached .plans) (holdAll nothingHeld gs) index scratch)
+      ap (λ (g : Fleet). step g (Call.plan index scratch) .answer) (reached .is) ∙ plan-answer rs timeStep rule few (reached .plans) (holdAll nothingHeld gs) index scratch
+
+  -- each plan among the calls that is accepted: a beginning of calls that keep the tick open keeps it open
+  plans-here : (calls : List Call) (gs : List (ℕ × Vec3)) (fleet : Fleet) → Reached rs timeStep rule few gs fleet → staysOpen fleet calls ≡ true
+      → PlansStand timeStep rule rs (run fleet calls)
+  unfolding run staysOpen
+  plans-here [] gs fleet reached still index scratch given there answers = absurd there
+  plans-here (call ∷ calls) gs fleet reached still index scratch given (inl is) answers =
+      let same =
+      ap (λ (made : Call × Answer). made .1) is
+      ∙ ap (λ (c : Call). step fleet c .answer) (sym (ap (λ (made : Call × Answer). made .0) is))
+      ∙ plan-here gs fleet reached index scratch in
+      same ∙ accepted-by (indexAmong (length rs) index) (replyFor timeStep rule rs index (length scratch)) (sym (ap number same) ∙ answers)
+  plans-here (call ∷ calls) gs fleet reached still index scratch given (inr later) answers =
+      let (one, more) = both (stays fleet call) (staysOpen (step fleet call .fleet) calls) still in
+      plans-here calls (gs ++ goalIn fleet call) (step fleet call .fleet) (call-leads rs timeStep rule few call gs fleet reached one) more index scratch given later answers
 
   opened-right : Reached rs timeStep rule few [] opening
   unfolding opening holdAll allFit nothingHeld hasPlan
@@ -137,16 +158,15 @@ module _ (rs : List Record) (timeStep : Float) (rule : Rule) (few : length rs �
     fits = refl;
   }
 
-  dropped-here : (calls : List Call) → staysOpen opening calls ≡ true → step (after opening calls) Call.drop .fleet ≡ after (step opening Call.drop .fleet) (goalCalls (goalsOf opening calls))
+  dropped-here : (calls : List Call) → staysOpen opening calls ≡ true → step (after opening calls) Call.drop .fleet ≡ after (fleetOf rs) (goalCalls (goalsOf opening calls))
   unfolding opening ended nothingHeld
   dropped-here calls still =
       let gs = goalsOf opening calls in
       let reached = calls-lead rs timeStep rule few calls [] opening opened-right still in
-      let none : goalsTaken rs nothingHeld ≡ rs = taken-none mostAgents rs few in
       ap (λ (fleet : Fleet). step fleet Call.drop .fleet) (reached .is)
       ∙ dropped rs timeStep rule few (reached .plans) (holdAll nothingHeld gs)
-      ∙ ap fleetOf (taken-applied rs nothingHeld gs (omega (arith, length-replicate mostAgents (slot Nothing))) (reached .fits) ∙ ap (λ (l : List Record). applied l gs) none)
-      ∙ sym (ap (λ (fleet : Fleet). after fleet (goalCalls gs)) (dropped rs timeStep rule few nothingHeld nothingHeld ∙ ap fleetOf none) ∙ goals-shut rs gs (reached .fits))
+      ∙ ap fleetOf (taken-applied rs nothingHeld gs (omega (arith, length-replicate mostAgents (slot Nothing))) (reached .fits) ∙ ap (λ (l : List Record). applied l gs) (taken-none mostAgents rs few))
+      ∙ sym (goals-shut rs gs (reached .fits))
 
   any-order-here : (calls : List Call) (scratch : List Float) → staysOpen opening calls ≡ true → accepted (after opening calls) Call.close ≡ true → fullScratch ≤ length scratch
       → step (after opening calls) Call.close .fleet ≡ after opening (inOrder 0 (length rs) scratch ++ Call.close ∷ goalCalls (goalsOf opening calls))
@@ -184,99 +204,105 @@ module _ (rs : List Record) (timeStep : Float) (rule : Rule) (few : length rs �
 
 -- ---- demand 3
 
--- what the type of a fleet says: it has room for 64 records
-abbrev pub Whole : Fleet → Type 0
-Whole fleet = length (fleet .standing .records) ≡ mostAgents
-
-few-agents : (fleet : Fleet) → Whole fleet → length (agents fleet) ≤ mostAgents
+few-agents : (fleet : Fleet) → WholeFleet fleet → length (agents fleet) ≤ mostAgents
 unfolding agents
 few-agents fleet whole = omega (arith, length-take (fleet .standing .count) (fleet .standing .records))
 
 -- an opening that is accepted
 opened-is : (fleet : Fleet) (timeStep : Float) (rule : Rule) (few : length (agents fleet) ≤ mostAgents) → accepted fleet (Call.start timeStep rule) ≡ true
-    → step fleet (Call.start timeStep rule) .fleet ≡ opening (agents fleet) timeStep rule few
+    → openedOn fleet timeStep rule ≡ opening (agents fleet) timeStep rule few
 unfolding accepted step openCall opening state holdingNothing settled
 opened-is fleet timeStep rule few h =
     ap (λ (v : Verdict). settled v fleet (holdingNothing (Open timeStep rule) (agents fleet)) .fleet) (settled-passes (openVerdict (fleet .tick) timeStep) fleet _ (eqb-true _ _ h))
 
--- Within a tick that was opened on `fleet`, after any calls that leave it open.
-module _ (fleet : Fleet) (timeStep : Float) (rule : Rule) (whole : Whole fleet) (opens : accepted fleet (Call.start timeStep rule) ≡ true) where
+-- in a tick that was opened on `fleet`, after calls that keep it open
+module _ (fleet : Fleet) (timeStep : Float) (rule : Rule) (calls : List Call) (made : InTick fleet timeStep rule calls) where
   abbrev opened : Fleet
-  opened = step fleet (Call.start timeStep rule) .fleet
+  opened = openedOn fleet timeStep rule
 
   few : length (agents fleet) ≤ mostAgents
-  few = few-agents fleet whole
+  few = few-agents fleet (made .whole)
 
-  same-opening : opened ≡ opening (agents fleet) timeStep rule few
-  same-opening = opened-is fleet timeStep rule few opens
+  abbrev start : Fleet
+  start = opening (agents fleet) timeStep rule few
 
-  -- a close that is accepted leaves the table that the canonical run leaves: agents 0, 1, 2 and on planned, with scratch for 63 neighbours,
-  -- the tick closed, and then the accepted goal calls made in their order
-  pub any-order : (calls : List Call) (scratch : List Float) → staysOpen opened calls ≡ true → accepted (after opened calls) Call.close ≡ true → fullScratch ≤ length scratch
+  same-opening : opened ≡ start
+  same-opening = opened-is fleet timeStep rule few (made .opens)
+
+  still : staysOpen start calls ≡ true
+  still = subst (λ (g : Fleet). staysOpen g calls ≡ true) same-opening (made .stays)
+
+  led : Reached (agents fleet) timeStep rule few (goalsOf start calls) (after start calls)
+  led = calls-lead (agents fleet) timeStep rule few calls [] start (opened-right (agents fleet) timeStep rule few) still
+
+  plans-stand : PlansStand timeStep rule (agents fleet) (run opened calls)
+  plans-stand =
+      subst (λ (g : Fleet). PlansStand timeStep rule (agents fleet) (run g calls)) (sym same-opening)
+      (plans-here (agents fleet) timeStep rule few calls [] start (opened-right (agents fleet) timeStep rule few) still)
+
+  -- what a plan then answers
+  plan-there : (index : ℕ) (scratch : List Float)
+      → step (after opened calls) (Call.plan index scratch) .answer ≡ answerBy (indexAmong (length (agents fleet)) index) (replyFor timeStep rule (agents fleet) index (length scratch))
+  plan-there index scratch =
+      ap (λ (g : Fleet). step (after g calls) (Call.plan index scratch) .answer) same-opening
+      ∙ plan-here (agents fleet) timeStep rule few (goalsOf start calls) (after start calls) led index scratch
+
+  canonical-there : accepted (after opened calls) Call.close ≡ true → (scratch : List Float) → fullScratch ≤ length scratch
       → after opened (calls ++ Call.close ∷ []) ≡ after opened (canonical opened scratch (goalsOf opened calls))
   unfolding canonical after
-  any-order calls scratch =
-      subst (λ (start : Fleet). staysOpen start calls ≡ true → accepted (after start calls) Call.close ≡ true → fullScratch ≤ length scratch
-      → after start (calls ++ Call.close ∷ []) ≡ after start (inOrder 0 (length (agents start)) scratch ++ Call.close ∷ goalCalls (goalsOf start calls)))
+  canonical-there closes scratch enough =
+      subst (λ (g : Fleet). accepted (after g calls) Call.close ≡ true → after g (calls ++ Call.close ∷ []) ≡ after g (inOrder 0 (length (agents g)) scratch ++ Call.close ∷ goalCalls (goalsOf g calls)))
       (sym same-opening)
-      (λ still closes enough.
-      after-append (opening (agents fleet) timeStep rule few) calls (Call.close ∷ [])
-      ∙ any-order-here (agents fleet) timeStep rule few calls scratch still closes enough
-      ∙ ap (λ (n : ℕ). after (opening (agents fleet) timeStep rule few) (inOrder 0 n scratch ++ Call.close ∷ goalCalls (goalsOf (opening (agents fleet) timeStep rule few) calls)))
-      (sym (ap length (agents-open (agents fleet) timeStep rule few))))
-
-  -- each plan among the calls that is accepted answers what demand 2's definition gives on the records as they stood at the opening
-  pub standing-plans : (calls : List Call) → staysOpen opened calls ≡ true → (index : ℕ) (scratch : List Float) → accepted (after opened calls) (Call.plan index scratch) ≡ true
-      → step (after opened calls) (Call.plan index scratch) .answer ≡ answer.Plan (replyFor timeStep rule (agents fleet) index (length scratch))
-  standing-plans calls still index scratch =
-      subst (λ (start : Fleet). staysOpen start calls ≡ true → accepted (after start calls) (Call.plan index scratch) ≡ true
-      → step (after start calls) (Call.plan index scratch) .answer ≡ answer.Plan (replyFor timeStep rule (agents fleet) index (length scratch)))
-      (sym same-opening)
-      (λ still′ takes.
-      let start = opening (agents fleet) timeStep rule few in
-      let led = calls-lead (agents fleet) timeStep rule few calls [] start (opened-right (agents fleet) timeStep rule few) still′ in
-      plan-here (agents fleet) timeStep rule few (goalsOf start calls) _ led index scratch takes)
-      still
+      (λ closes′.
+      after-append start calls (Call.close ∷ [])
+      ∙ any-order-here (agents fleet) timeStep rule few calls scratch still closes′ enough
+      ∙ ap (λ (n : ℕ). after start (inOrder 0 n scratch ++ Call.close ∷ goalCalls (goalsOf start calls))) (sym (ap length (agents-open (agents fleet) timeStep rule few))))
+      closes
 
   -- the records that stand are those at the opening
-  pub standing-kept : (calls : List Call) → staysOpen opened calls ≡ true → agents (after opened calls) ≡ agents fleet
-  standing-kept calls still =
-      subst (λ (start : Fleet). staysOpen start calls ≡ true → agents (after start calls) ≡ agents fleet) (sym same-opening)
-      (λ still′.
-      let start = opening (agents fleet) timeStep rule few in
-      let led = calls-lead (agents fleet) timeStep rule few calls [] start (opened-right (agents fleet) timeStep rule few) still′ in
-      ap agents (led .is) ∙ agents-are (agents fleet) timeStep rule few (led .plans) (holdAll nothingHeld (goalsOf start calls)))
-      still
+  pub standing-kept : agents (after opened calls) ≡ agents fleet
+  standing-kept =
+      ap (λ (g : Fleet). agents (after g calls)) same-opening
+      ∙ ap agents (led .is)
+      ∙ agents-are (agents fleet) timeStep rule few (led .plans) (holdAll nothingHeld (goalsOf start calls))
 
-  -- drop moves nobody, and the accepted goal calls are taken up in their order
-  pub any-order-dropped : (calls : List Call) → staysOpen opened calls ≡ true → after opened (calls ++ Call.drop ∷ []) ≡ after opened (Call.drop ∷ goalCalls (goalsOf opened calls))
+  dropped-there : after opened (calls ++ Call.drop ∷ []) ≡ after (fleetOf (agents fleet)) (goalCalls (goalsOf opened calls))
   unfolding after
-  any-order-dropped calls =
-      subst (λ (start : Fleet). staysOpen start calls ≡ true → after start (calls ++ Call.drop ∷ []) ≡ after (step start Call.drop .fleet) (goalCalls (goalsOf start calls)))
-      (sym same-opening)
-      (λ still. after-append (opening (agents fleet) timeStep rule few) calls (Call.drop ∷ []) ∙ dropped-here (agents fleet) timeStep rule few calls still)
+  dropped-there =
+      subst (λ (g : Fleet). after g (calls ++ Call.drop ∷ []) ≡ after (fleetOf (agents fleet)) (goalCalls (goalsOf g calls))) (sym same-opening)
+      (after-append start calls (Call.drop ∷ []) ∙ dropped-here (agents fleet) timeStep rule few calls still)
 
-  -- the order, the number and the scratch of plans do not show: only the accepted goal calls do
-  pub order-unseen : (calls other : List Call) → staysOpen opened calls ≡ true → staysOpen opened other ≡ true
-      → accepted (after opened calls) Call.close ≡ true → accepted (after opened other) Call.close ≡ true
-      → goalsOf opened calls ≡ goalsOf opened other → after opened (calls ++ Call.close ∷ []) ≡ after opened (other ++ Call.close ∷ [])
-  order-unseen calls other still still′ closes closes′ same =
-      let scratch : List Float = replicate fullScratch zero32 in
-      let enough : fullScratch ≤ length scratch = omega (arith, length-replicate fullScratch zero32) in
-      any-order calls scratch still closes enough
-      ∙ ap (λ (goals : List (ℕ × Vec3)). after opened (canonical opened scratch goals)) same
-      ∙ sym (any-order other scratch still′ closes′ enough)
+pub demand-three : DemandThree
+demand-three fleet timeStep rule calls made closes = (plans-stand fleet timeStep rule calls made, canonical-there fleet timeStep rule calls made closes)
 
--- the answer to a call in a run is the one that it gets after the calls before it, to which `standing-plans` speaks
-pub answered-in-turn : (fleet : Fleet) (before : List Call) (call : Call) (later : List Call)
-    → run fleet (before ++ call ∷ later) ≡ run fleet before ++ (call, step (after fleet before) call .answer) ∷ run (step (after fleet before) call .fleet) later
+pub any-order-dropped : AnyOrderDropped
+any-order-dropped fleet timeStep rule calls made = (plans-stand fleet timeStep rule calls made, dropped-there fleet timeStep rule calls made)
+
+pub plan-repeated : PlanRepeated
+unfolding replyFor
+plan-repeated fleet timeStep rule calls later made made′ index scratch again enough enough′ =
+    let rs = agents fleet in
+    plan-there fleet timeStep rule calls made index scratch
+    ∙ ap (λ (r : Reply). answerBy (indexAmong (length rs) index) (renamed (neighbourIndices rule rs index) r))
+    (enough-scratch (requestFor (ownRecord rs index) timeStep) (neighboursOf rule rs index) (length scratch) (length again) enough enough′)
+    ∙ sym (plan-there fleet timeStep rule later made′ index again)
+
+-- the order, the number and the scratch of plans do not show: only the accepted goal calls do
+pub order-unseen : OrderUnseen
+order-unseen fleet timeStep rule calls others made made′ closes closes′ same =
+    let opened = openedOn fleet timeStep rule in
+    let scratch : List Float = replicate fullScratch zero32 in
+    let enough : fullScratch ≤ length scratch = omega (arith, length-replicate fullScratch zero32) in
+    canonical-there fleet timeStep rule calls made closes scratch enough
+    ∙ ap (λ (goals : List (ℕ × Vec3)). after opened (canonical opened scratch goals)) same
+    ∙ sym (canonical-there fleet timeStep rule others made′ closes′ scratch enough)
+
+pub answered-in-turn : AnsweredInTurn
 unfolding run after
 answered-in-turn fleet [] call later = refl
 answered-in-turn fleet (first ∷ before) call later = ap (λ (rest : List (Call × Answer)). (first, step fleet first .answer) ∷ rest) (answered-in-turn (step fleet first .fleet) before call later)
 
--- what a refused call said has no effect on anything after it: not on the table, and on no later answer
-pub refused-unseen : (fleet : Fleet) (call : Call) (calls : List Call) → accepted fleet call ≡ false
-    → (after fleet (call ∷ calls) ≡ after fleet calls) × (run fleet (call ∷ calls) ≡ (call, step fleet call .answer) ∷ run fleet calls)
+pub refused-unseen : RefusedUnseen
 unfolding after run accepted
 refused-unseen fleet call calls refused =
     let same : step fleet call .fleet ≡ fleet = refused-unchanged fleet call (eqb-false (number (step fleet call .answer)) 0 refused) in

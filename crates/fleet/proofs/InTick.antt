@@ -27,6 +27,8 @@ use Rattle.avoidance.specs.Velocity.{velocityCall}
 use Rattle.avoidance.proofs.ReplyLaws.{renamed-answered, renamed-velocity, any-scratch}
 use Rattle.records.specs.declared.Record.{Record}
 use Rattle.records.specs.Record.{mostAgents, blank}
+use Rattle.records.specs.Checks.{indexAmong}
+use Rattle.fleet.specs.declared.Answer.{Answer}
 use Rattle.fleet.specs.declared.Answer.the-variants as answer
 use Rattle.fleet.specs.declared.Rule.{Rule}
 use Rattle.fleet.specs.declared.Held.the-variants.{Nothing, Vector}
@@ -50,11 +52,19 @@ not-accepted : (fleet : Fleet) (call : Call) → not (accepted fleet call) ≡ t
 unfolding accepted
 not-accepted fleet call h e = no-truth (sym (ap not (eq-eqb (number (step fleet call .answer)) 0 e)) ∙ h)
 
--- an accepted plan's answer is the velocity call's
-answered-is : (v : Verdict) (fleet : Fleet) (index : ℕ) (r : Reply) → number (answeredBy v fleet index r .answer) ≡ 0 → answeredBy v fleet index r .answer ≡ answer.Plan r
+-- a plan answers what the velocity call replies, where there is such an agent
+abbrev pub answerBy : Verdict → Reply → Answer
+answerBy Passed r = answer.Plan r
+answerBy (Refused no-agent) r = answer.Refused no-agent
+
+answered-by : (v : Verdict) (fleet : Fleet) (index : ℕ) (r : Reply) → answeredBy v fleet index r .answer ≡ answerBy v r
 unfolding answeredBy
-answered-is Passed fleet index r e = refl
-answered-is (Refused no-agent) fleet index r e = absurd (not-answered no-agent e)
+answered-by Passed fleet index r = refl
+answered-by (Refused no-agent) fleet index r = refl
+
+pub accepted-by : (v : Verdict) (r : Reply) → number (answerBy v r) ≡ 0 → answerBy v r ≡ answer.Plan r
+accepted-by Passed r e = refl
+accepted-by (Refused no-agent) r e = absurd (not-answered no-agent e)
 
 -- ---- a fleet in the tick that was opened on the records rs
 
@@ -199,17 +209,19 @@ module _ (rs : List Record) (timeStep : Float) (rule : Rule) (few : length rs �
   any-call plans gs ok fits Call.close h = unchanged plans gs _ ok fits (refused-unchanged (state plans (holdAll nothingHeld gs)) Call.close (not-accepted _ Call.close h))
   any-call plans gs ok fits Call.drop h = no-truth h
 
+  pub call-leads : (call : Call) (gs : List (ℕ × Vec3)) (fleet : Fleet) → Reached gs fleet → stays fleet call ≡ true → Reached (gs ++ goalIn fleet call) (step fleet call .fleet)
+  call-leads call gs fleet reached =
+      subst (λ (g : Fleet). stays g call ≡ true → Reached (gs ++ goalIn g call) (step g call .fleet)) (sym (reached .is))
+      (any-call (reached .plans) gs (reached .ok) (reached .fits) call)
+
   pub calls-lead : (calls : List Call) (gs : List (ℕ × Vec3)) (fleet : Fleet) → Reached gs fleet → staysOpen fleet calls ≡ true
       → Reached (gs ++ goalsOf fleet calls) (after fleet calls)
   unfolding staysOpen goalsOf after
   calls-lead [] gs fleet reached open-still = subst (λ (hs : List (ℕ × Vec3)). Reached hs fleet) (sym (append-nil gs)) reached
   calls-lead (call ∷ calls) gs fleet reached open-still =
       let (one, more) = both (stays fleet call) (staysOpen (step fleet call .fleet) calls) open-still in
-      let next =
-      subst (λ (g : Fleet). stays g call ≡ true → Reached (gs ++ goalIn g call) (step g call .fleet)) (sym (reached .is))
-      (any-call (reached .plans) gs (reached .ok) (reached .fits) call) one in
       subst (λ (hs : List (ℕ × Vec3)). Reached hs (after (step fleet call .fleet) calls)) (append-assoc gs (goalIn fleet call) (goalsOf (step fleet call .fleet) calls))
-      (calls-lead calls (gs ++ goalIn fleet call) (step fleet call .fleet) next more)
+      (calls-lead calls (gs ++ goalIn fleet call) (step fleet call .fleet) (call-leads call gs fleet reached one) more)
 
   -- ---- close
 
@@ -235,13 +247,12 @@ module _ (rs : List Record) (timeStep : Float) (rule : Rule) (few : length rs �
       sym (ap (λ (s : Slot). hasPlan (s .held)) (getD-take (length rs) plans i (slot Nothing) below))
       ∙ not-false (hasPlan (getD front i (slot Nothing) .held)) (none-bad unplanned 0 front none i (slot Nothing) within)
 
-  pub plan-answer : (plans goals : List Slot) (index : ℕ) (scratch : List Float) → accepted (state plans goals) (Call.plan index scratch) ≡ true
-      → step (state plans goals) (Call.plan index scratch) .answer ≡ answer.Plan (replyFor timeStep rule rs index (length scratch))
-  unfolding accepted step planCall planIn planOpen state
+  pub plan-answer : (plans goals : List Slot) (index : ℕ) (scratch : List Float)
+      → step (state plans goals) (Call.plan index scratch) .answer ≡ answerBy (indexAmong (length rs) index) (replyFor timeStep rule rs index (length scratch))
+  unfolding step planCall planIn planOpen state hasAgent
   plan-answer plans goals index scratch =
-      subst (λ (l : List Record). eqb (number (answeredBy (hasAgent (state plans goals) index) (state plans goals) index (replyFor timeStep rule l index (length scratch)) .answer)) 0 ≡ true
-      → answeredBy (hasAgent (state plans goals) index) (state plans goals) index (replyFor timeStep rule l index (length scratch)) .answer ≡ answer.Plan (replyFor timeStep rule rs index (length scratch)))
-      (sym (agents-are plans goals)) (λ h. answered-is (hasAgent (state plans goals) index) (state plans goals) index (replyFor timeStep rule rs index (length scratch)) (eqb-true _ _ h))
+      answered-by (indexAmong (length (agents (state plans goals))) index) (state plans goals) index (replyFor timeStep rule (agents (state plans goals)) index (length scratch))
+      ∙ ap (λ (l : List Record). answerBy (indexAmong (length l) index) (replyFor timeStep rule l index (length scratch))) (agents-are plans goals)
 
   pub dropped : (plans goals : List Slot) → step (state plans goals) Call.drop .fleet ≡ ended rs goals
   unfolding step dropCall opened settled state

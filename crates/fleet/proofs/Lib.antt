@@ -7,6 +7,8 @@ pub mod Kept
 pub mod LoadRead
 pub mod HeldGoals
 pub mod Refusals
+pub mod Places
+pub mod Scratch
 pub mod InTick
 pub mod AnyOrder
 pub mod InTurn

@@ -34,8 +34,9 @@ use Rattle.fleet.specs.declared.Fleet.{Fleet}
 use Rattle.fleet.specs.Table.{agents, settled, hasAgent}
 use Rattle.fleet.specs.Tick.{stepVerdict}
 use Rattle.fleet.specs.Plan.{keeps, keptFrom, neighbourNumbers, requestFor, ownRecord, neighbourIndices, neighboursOf, replyFor, answeredBy, planOpen, planIn, planCall}
-use Rattle.fleet.specs.Calls.{Call, step}
+use Rattle.fleet.specs.Calls.{step}
 use Rattle.fleet.specs.Sound.{Stored, Ticking, Sound, PassesOn}
+use Rattle.fleet.specs.Claims.{PlanPassesOn}
 use Rattle.fleet.proofs.Lists.{Every}
 use Rattle.fleet.proofs.Kept.{few-neighbours}
 
@@ -123,6 +124,6 @@ module _ (fleet : Fleet) (sound : Sound fleet) (index k : ℕ) where
   tick-passes Shut ticking = PassesOn.noTick refl
   tick-passes (Open timeStep rule) ticking = open-passes timeStep rule ticking
 
-pub plan-passes-on : (fleet : Fleet) → Sound fleet → (index : ℕ) (scratch : List Float) → PassesOn (step fleet (Call.plan index scratch) .answer)
+pub plan-passes-on : PlanPassesOn
 unfolding step planCall
 plan-passes-on fleet sound index scratch = tick-passes fleet sound index (length scratch) (fleet .tick) (sound .ticking)

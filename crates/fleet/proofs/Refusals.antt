@@ -1,6 +1,5 @@
 -- Each refusal of a table call is given exactly when document 01 says, and leaves the table as it was.
---     refused-8 … refused-16: answer N if and only if N's condition is the first that holds; `exactly` says it of every number
---     refused-16-place: its place is the bytes that a save needs
+--     refused-exactly: answer N, above 0, if and only if N's condition is the first that holds; answered-exactly: answer 0 if and only if none holds
 --     same-inputs-refused: the plans refused with 1 or 17 are those that document 01's 1 named, and those refused with 18 or 7 those that its 7 named
 --     refused-zeros: a refused velocity is three zeros
 --     refused-unchanged: a call that is refused hands back the very fleet that it was given, whichever call it is
@@ -8,7 +7,8 @@ use mathlib.Core.Path.{_≡_, refl, sym, ap, _∙_}
 use mathlib.Core.Bool.{Bool, true, false, not, _&&_, cond}
 use mathlib.Core.List.{List, [], _∷_, _++_}
 use mathlib.Core.Logic.{_↔_}
-use Prim.Native.Nat.{ℕ, suc}
+use Prim.Native.Nat.{ℕ, zero, suc}
+use native.Mathlib.Nat.{zero-lt-suc}
 use native.Mathlib.Omega.{arith}
 use lib.Dec.{leb, ltb}
 use lib.ListN.{length, take}
@@ -16,22 +16,23 @@ use lib.Ieee.{Float}
 use borrow.Author.Tests.{ltb-true, ltb-false, le-leb, lt-leb}
 use Rattle.vectors.specs.declared.Vec3.{Vec3}
 use Rattle.vectors.specs.Number.{_>ᶠ_, finite, zero as zero32}
-use Rattle.vectors.specs.Vec3.{zeroVec, finiteVec}
+use Rattle.vectors.specs.Vec3.{finiteVec}
 use Rattle.vectors.proofs.Finite.{finite-are}
+use Rattle.vectors.proofs.Truth.{no-truth}
 use Rattle.refusals.specs.declared.Found.{Found}
 use Rattle.refusals.specs.declared.Found.the-variants.{At, Nothing}
 use Rattle.refusals.specs.declared.Refusal.the-variants as refusal
 use Rattle.refusals.specs.declared.Verdict.{Verdict}
 use Rattle.refusals.specs.declared.Verdict.the-variants.{Passed, Refused}
 use Rattle.refusals.specs.Refusal as refusals
-use Rattle.refusals.specs.Conditions.{firstHolding, First, isFound, some, marked, firstBad}
+use Rattle.refusals.specs.Conditions.{firstHolding, isFound, some, marked, firstBad}
 use Rattle.refusals.specs.Verdict.{_⊳_, refusedIf, refusedAt}
 use Rattle.refusals.proofs.Conditions.{no-place, indexOf, orElse, holding-append, foundAs}
-use Rattle.refusals.proofs.Verdicts.{said, Says, then, held-says, tested-says, found-says}
+use Rattle.refusals.proofs.Verdicts.{not-answered, said, Says, then, held-says, tested-says, found-says}
 use Rattle.avoidance.specs.declared.Reply.{Reply}
 use Rattle.avoidance.specs.Reply as reply
 use Rattle.avoidance.specs.Velocity.{velocityCall}
-use Rattle.avoidance.specs.Conditions.{velocityConditions, documentOneConditions, SameInputs}
+use Rattle.avoidance.specs.Conditions.{velocityConditions, documentOneConditions}
 use Rattle.avoidance.proofs.Refusals.{refusedWith, by-conditions}
 use Rattle.avoidance.proofs.Refusals as of-reply
 use Rattle.avoidance.proofs.SameInputs.{documentOne, told-apart, document-one-holding}
@@ -48,13 +49,14 @@ use Rattle.fleet.specs.declared.Slot.{Slot}
 use Rattle.fleet.specs.declared.Tick.{Tick}
 use Rattle.fleet.specs.declared.Tick.the-variants.{Shut, Open}
 use Rattle.fleet.specs.declared.Fleet.{Fleet}
-use Rattle.fleet.specs.Answer.{number, placeOf, velocityOf}
+use Rattle.fleet.specs.Answer.{number}
 use Rattle.fleet.specs.Table.{agents, settled, shut, hasAgent, room, addVerdict, addCall, putVerdict, putCall, removeVerdict, removeCall, answerTo, readCall}
 use Rattle.fleet.specs.Load.{loadVerdict, loadCall}
 use Rattle.fleet.specs.Save.{neededBytes, shortBuffer, saveVerdict, saveCall}
 use Rattle.fleet.specs.Tick.{stepVerdict, openCall, goalFault, goalVerdict, goalCall, unplanned, astray, arrivals, openVerdict, closeVerdict, closeOpen, closeIn, closeCall, opened, dropCall}
 use Rattle.fleet.specs.Plan.{requestFor, ownRecord, neighbourIndices, neighboursOf, replyFor, plansAfter, fleetAfter, answeredBy, planOpen, planIn, planCall}
 use Rattle.fleet.specs.Calls.{Call, step, isOpen, noAgent, planConditions, closeConditions, callConditions}
+use Rattle.fleet.specs.Claims.{RefusedExactly, AnsweredExactly, SameInputsRefused, RefusedZeros, RefusedUnchanged}
 use Rattle.fleet.proofs.Verdicts.{settled-kept}
 
 -- ---- the verdicts of single checks
@@ -200,54 +202,26 @@ numbered answer.Done n = (λ e. absurd (omega arith), λ e. no-place e)
 numbered (answer.Plan replied) n = of-reply.numbered replied n
 numbered (answer.Refused r) n = (λ e. ap At e, λ e. ap indexOf e)
 
--- answer n if and only if n's condition is the first that holds
-abbrev pub Exactly : ℕ → Type 0
-Exactly n = (fleet : Fleet) (call : Call) → (number (step fleet call .answer) ≡ n) ↔ First n (callConditions fleet call)
+-- and the number 0 exactly where it is not refused
+unrefused : (given : Answer) → (number given ≡ 0) ↔ (refusalIn given ≡ Nothing)
+unrefused answer.Done = (λ e. refl, λ e. refl)
+unrefused (answer.Plan replied) = of-reply.unrefused replied
+unrefused (answer.Refused r) = (λ e. absurd (not-answered r e), λ e. no-place (sym e))
 
-pub exactly : (n : ℕ) → Exactly (suc n)
-exactly n fleet call =
+pub refused-exactly : RefusedExactly
+refused-exactly zero more fleet call = absurd (omega (arith, more))
+refused-exactly (suc n) more fleet call =
     let (to, from) = numbered (step fleet call .answer) n in
     (λ e. sym (call-says fleet call) ∙ to e, λ h. from (call-says fleet call ∙ h))
 
-pub refused-8 : Exactly 8
-refused-8 = exactly 7
-
-pub refused-9 : Exactly 9
-refused-9 = exactly 8
-
-pub refused-10 : Exactly 10
-refused-10 = exactly 9
-
-pub refused-11 : Exactly 11
-refused-11 = exactly 10
-
-pub refused-12 : Exactly 12
-refused-12 = exactly 11
-
-pub refused-13 : Exactly 13
-refused-13 = exactly 12
-
-pub refused-14 : Exactly 14
-refused-14 = exactly 13
-
-pub refused-15 : Exactly 15
-refused-15 = exactly 14
-
-pub refused-16 : Exactly 16
-refused-16 = exactly 15
-
--- its place is the bytes needed
-pub refused-16-place : (fleet : Fleet) (buffer : List ℕ) → number (step fleet (Call.save buffer) .answer) ≡ 16
-    → placeOf (step fleet (Call.save buffer) .answer) ≡ neededBytes fleet
-unfolding step saveCall saveVerdict answerTo
-refused-16-place fleet buffer = go (shortBuffer fleet (length buffer))
+pub answered-exactly : AnsweredExactly
+answered-exactly fleet call =
+    let (to, from) = unrefused (step fleet call .answer) in
+    (λ e. ap isFound (sym (call-says fleet call) ∙ to e), λ none. from (call-says fleet call ∙ nothing (firstHolding (callConditions fleet call)) none))
   where
-    answerIf : Bool → Answer
-    answerIf short = answerTo (refusedIf short (refusal.ShortBuffer (neededBytes fleet)))
-
-    go : (short : Bool) → number (answerIf short) ≡ 16 → placeOf (answerIf short) ≡ neededBytes fleet
-    go true e = refl
-    go false e = absurd (omega arith)
+    nothing : (found : Found) → isFound found ≡ false → found ≡ Nothing
+    nothing (At n) e = no-truth (sym e)
+    nothing Nothing e = refl
 
 -- ---- 17 and 18 refuse the plans that document 01's 1 and 7 refused
 
@@ -272,14 +246,14 @@ plan-document-one (Open timeStep rule) fleet index k =
     kept true = ap (foundAs documentOne) (sym (held-says true (refusal.NoAgent index))) ∙ held-says true (refusal.NoAgent index)
     kept false = ap (foundAs documentOne) (sym (held-says false (refusal.NoAgent index))) ∙ held-says false (refusal.NoAgent index)
 
-pub same-inputs-refused : (fleet : Fleet) (index : ℕ) (scratch : List Float) → SameInputs (number (step fleet (Call.plan index scratch) .answer)) (planConditions documentOneConditions (fleet .tick) fleet index (length scratch))
+pub same-inputs-refused : SameInputsRefused
 unfolding callConditions
 same-inputs-refused fleet index scratch =
-    told-apart _ (firstHolding (callConditions fleet (Call.plan index scratch))) _ (λ n. exactly n fleet (Call.plan index scratch)) (plan-document-one (fleet .tick) fleet index (length scratch))
+    told-apart _ (firstHolding (callConditions fleet (Call.plan index scratch))) _ (λ n. refused-exactly (suc n) (zero-lt-suc n) fleet (Call.plan index scratch)) (plan-document-one (fleet .tick) fleet index (length scratch))
 
 -- ---- a refused velocity is three zeros
 
-pub refused-zeros : (given : Answer) → (number given ≡ 0 → ⊥) → velocityOf given ≡ zeroVec
+pub refused-zeros : RefusedZeros
 refused-zeros answer.Done refused = refl
 refused-zeros (answer.Plan replied) refused = of-reply.refused-zeros replied refused
 refused-zeros (answer.Refused why) refused = refl
@@ -305,7 +279,7 @@ unfolding closeIn closeOpen
 close-kept Shut fleet refused = settled-kept _ fleet fleet refused
 close-kept (Open timeStep rule) fleet refused = settled-kept _ fleet _ refused
 
-pub refused-unchanged : (fleet : Fleet) (call : Call) → (number (step fleet call .answer) ≡ 0 → ⊥) → step fleet call .fleet ≡ fleet
+pub refused-unchanged : RefusedUnchanged
 unfolding step loadCall saveCall addCall putCall removeCall readCall goalCall openCall planCall closeCall dropCall
 refused-unchanged fleet (Call.load file) refused = settled-kept _ fleet _ refused
 refused-unchanged fleet (Call.save buffer) refused = refl

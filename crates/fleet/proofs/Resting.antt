@@ -23,11 +23,10 @@ use Rattle.fleet.specs.Tick.{openCall, holdGoal, goalSet, goalCall, ende
 use Rattle.fleet.specs.Plan.{planIn, planCall}
 use Rattle.fleet.specs.Calls.{Call, step}
 use Rattle.fleet.specs.Runs.{after}
+use Rattle.fleet.specs.Sound.{Resting}
+use Rattle.fleet.specs.Claims.{RestsEmpty, RestsRun}
 use Rattle.fleet.proofs.Agents.{agents-holding}
 use Rattle.fleet.proofs.InTurn.{plan-alters}
-
-abbrev pub Resting : Fleet → Type 0
-Resting fleet = fleet .tick ≡ Shut → fleet ≡ fleetOf (agents fleet)
 
 not-shut : {P : Type 0} {timeStep : Float} {rule : Rule} → Open timeStep rule ≡ Shut → P
 not-shut e = let z : _≡_ {A = ℕ} 0 1 = cc in absurd (omega arith)
@@ -61,7 +60,7 @@ unfolding closeIn closeOpen ended
 rests-close Shut fleet rests = rests-settled _ fleet fleet rests rests
 rests-close (Open timeStep rule) fleet rests = rests-settled _ fleet _ rests (rests-of _)
 
-pub rests-empty : Resting (fleetOf [])
+pub rests-empty : RestsEmpty
 rests-empty = rests-of []
 
 pub rests-kept : (fleet : Fleet) (call : Call) → Resting fleet → Resting (step fleet call .fleet)
@@ -78,7 +77,7 @@ rests-kept fleet (Call.plan index scratch) rests = rests-plan (fleet .tick) flee
 rests-kept fleet Call.close rests = rests-close (fleet .tick) fleet rests
 rests-kept fleet Call.drop rests = rests-settled _ fleet _ rests (rests-of _)
 
-pub rests-run : (fleet : Fleet) (calls : List Call) → Resting fleet → Resting (after fleet calls)
+pub rests-run : RestsRun
 unfolding after
 rests-run fleet [] rests = rests
 rests-run fleet (call ∷ calls) rests = rests-run (step fleet call .fleet) calls (rests-kept fleet call rests)

@@ -32,7 +32,8 @@ use Rattle.fleet.specs.Tick.{stepVerdict, openVerdict, openCall, goalVer
 use Rattle.fleet.specs.Plan.{replyFor, fleetAfter, answeredBy, planOpen, planIn, planCall}
 use Rattle.fleet.specs.Calls.{Call, step}
 use Rattle.fleet.specs.Runs.{after}
-use Rattle.fleet.specs.Sound.{Stored, Ticking, Sound, Typed, AllTyped}
+use Rattle.fleet.specs.Sound.{Stored, Ticking, Sound}
+use Rattle.fleet.specs.Claims.{SoundEmpty, SoundKept, SoundRun}
 use Rattle.fleet.proofs.Lists.{Every, every-none, every-one, every-append, every-take, every-drop, every-set}
 use Rattle.fleet.proofs.Agents.{agents-holding}
 use Rattle.fleet.proofs.Verdicts.{room-passed}
@@ -61,7 +62,7 @@ sound-holding tick rs few stored ticking =
 sound-of : (rs : List Record) → length rs ≤ mostAgents → AllStored rs → Sound (fleetOf rs)
 sound-of rs few stored = sound-holding Shut rs few stored tt
 
-pub sound-empty : Sound (fleetOf [])
+pub sound-empty : SoundEmpty
 sound-empty = sound-of [] (omega arith) (every-none Stored blank)
 
 -- a refused call hands back the fleet that it was given
@@ -167,7 +168,7 @@ module _ (fleet : Fleet) (sound : Sound fleet) where
 
 -- ---- every call
 
-pub sound-kept : (fleet : Fleet) (call : Call) → Sound fleet → Typed call → Sound (step fleet call .fleet)
+pub sound-kept : SoundKept
 unfolding step loadCall saveCall addCall putCall removeCall readCall goalCall openCall planCall closeCall dropCall
 sound-kept fleet (Call.load file) sound typed = sound-settled _ fleet _ sound (load-sound fleet sound file)
 sound-kept fleet (Call.save buffer) sound typed = sound
@@ -183,7 +184,7 @@ sound-kept fleet Call.drop sound typed = sound-settled _ fleet _ sound (λ e. en
 
 -- ---- every run
 
-pub sound-run : (fleet : Fleet) (calls : List Call) → Sound fleet → AllTyped calls → Sound (after fleet calls)
+pub sound-run : SoundRun
 unfolding after
 sound-run fleet [] sound typed = sound
 sound-run fleet (call ∷ calls) sound (one, more) = sound-run (step fleet call .fleet) calls (sound-kept fleet call sound one) more

@@ -1,5 +1,5 @@
 -- The table's calls as values, the step that each makes, and document 01's conditions for refusing it, in their order.
--- That a call is refused with N exactly when N's condition is the first that holds is proved in `proofs/Refusals.antt`.
+-- That a call is refused with N exactly when N's condition is the first that holds is claimed in `Claims.antt`.
 use Prim.Native.Nat.{ℕ}
 use mathlib.Core.Bool.{Bool, true, false, not}
 use mathlib.Core.List.{List, [], _∷_}

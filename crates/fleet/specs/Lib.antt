@@ -8,4 +8,5 @@ pub mod Plan
 pub mod Calls
 pub mod Runs
 pub mod Sound
+pub mod Claims
 pub mod parts

@@ -1,5 +1,5 @@
 -- Runs of calls, as lists: what they make of a fleet, and the run that a tick's calls come to whatever their order.
--- That they do is demand 3, proved in `proofs/AnyOrder.antt`.
+-- That they do is demand 3, claimed in `Claims.antt`.
 use Prim.Native.Nat.{ℕ, zero, suc}
 use mathlib.Core.Bool.{Bool, true, false, not, _&&_, cond}
 use mathlib.Core.List.{List, [], _∷_, _++_}

@@ -1,5 +1,4 @@
--- What a fleet made by the calls is. That the empty fleet is sound and that every call keeps a fleet so is proved in `proofs/Sound.antt`, and
--- what a plan of a sound fleet passes on in `proofs/PassesOn.antt`.
+-- What a fleet made by the calls is, and what a plan of such a fleet passes on. That they are so is claimed in `Claims.antt`.
 use Prim.Native.Nat.{ℕ, _≤_, _<_}
 use mathlib.Core.Path.{_≡_}
 use mathlib.Core.Bool.{true}
@@ -19,7 +18,7 @@ use Rattle.fleet.specs.declared.Tick.{Tick}
 use Rattle.fleet.specs.declared.Tick.the-variants.{Shut, Open}
 use Rattle.fleet.specs.declared.Fleet.{Fleet}
 use Rattle.fleet.specs.Answer.{number, placeOf}
-use Rattle.fleet.specs.Table.{agents, standingOf}
+use Rattle.fleet.specs.Table.{agents, standingOf, fleetOf}
 use Rattle.fleet.specs.Tick.{stepVerdict}
 use Rattle.fleet.specs.Calls.{Call}
 
@@ -53,6 +52,12 @@ pub record Sound (fleet : Fleet) : Type 0 where
   pub ticking : Ticking (fleet .tick)
   pub plans : AllStorable (fleet .plans)
   pub goals : AllStorable (fleet .goals)
+
+-- ---- a fleet at rest
+
+-- outside a tick nothing is held, and past the last of its agents all is blank
+abbrev pub Resting : Fleet → Type 0
+Resting fleet = fleet .tick ≡ Shut → fleet ≡ fleetOf (agents fleet)
 
 -- ---- what the types of a call's arguments say
 

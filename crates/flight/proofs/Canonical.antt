@@ -5,26 +5,23 @@
 use mathlib.Core.Path.{_≡_, refl, sym, ap, _∙_, subst}
 use mathlib.Core.Bool.{Bool, true, false}
 use mathlib.Core.List.{List, []}
-use Prim.Native.Nat.{ℕ, zero, suc, _≤_}
+use Prim.Native.Nat.{ℕ, zero, suc}
 use lib.ListN.{length}
 use lib.Ieee.{Float}
 use Rattle.vectors.proofs.Truth.{no-truth}
 use Rattle.avoidance.specs.Checks.{fullScratch}
-use Rattle.records.specs.Record.{mostAgents}
 use Rattle.fleet.specs.declared.Rule.{Rule}
 use Rattle.fleet.specs.declared.Fleet.{Fleet}
 use Rattle.fleet.specs.declared.Called.{Called}
-use Rattle.fleet.specs.Answer.{number}
 use Rattle.fleet.specs.Table.{agents, fleetOf}
 use Rattle.fleet.specs.Tick.{openCall, closeCall}
 use Rattle.fleet.specs.Plan.{planCall}
-use Rattle.fleet.specs.Calls.{Call, step}
 use Rattle.fleet.specs.Runs.{after, inOrder, canonical}
-use Rattle.fleet.specs.Sound.{AllTyped}
 use Rattle.fleet.proofs.Sound.{sound-empty, sound-run}
 use Rattle.fleet.proofs.InTurn.{in-order-none, in-order-more, canonical-closes, open-refused, close-refused, open-shut, started, ButPlans, unaltered, alters-more, plan-alters, dropped-back}
-use Rattle.fleet.proofs.Resting.{Resting, rests-empty, rests-run}
+use Rattle.fleet.proofs.Resting.{rests-empty, rests-run}
 use Rattle.flight.specs.Tick.{isRefused, unlessRefused, firstPlanned, orDropped, flown, oneTick}
+use Rattle.flight.specs.Claims.{OneTickCanonical, OneTickRefused, OneTickKept}
 use Rattle.flight.proofs.Steps.{not-refused, is-refused, answers-zero, answers-more, handed-on, goes-on, went-on, is-dropped, not-dropped, same-verdict, not-opened, is-opened}
 
 -- ---- after an opening
@@ -104,28 +101,26 @@ module _ (timeStep : Float) (rule : Rule) (fleet : Fleet) where
           let closes : isRefused (closed opened) ≡ false = verdict-is is ∙ goes in
           sym (ap (λ (last : Called). last .fleet) (not-dropped (closed opened) closes ∙ flown-is is)) ∙ closed-run opened scratch long closes
 
-  pub one-tick-canonical : (scratch : List Float) → length scratch ≡ fullScratch → number (oneTick timeStep rule fleet .answer) ≡ 0
-      → let start = step fleet (Call.start timeStep rule) .fleet in
-      oneTick timeStep rule fleet .fleet ≡ after start (canonical start scratch [])
-  one-tick-canonical scratch long answers =
-      rw (started fleet timeStep rule) (canonical-here scratch long (not-refused (oneTick timeStep rule fleet) answers))
+pub one-tick-canonical : OneTickCanonical
+one-tick-canonical timeStep rule fleet scratch long answers =
+    subst (λ (start : Fleet). oneTick timeStep rule fleet .fleet ≡ after start (canonical start scratch [])) (sym (ap (λ (last : Called). last .fleet) (started fleet timeStep rule)))
+    (canonical-here timeStep rule fleet scratch long (not-refused (oneTick timeStep rule fleet) answers))
 
-  pub one-tick-refused : length (agents fleet) ≤ mostAgents → Resting fleet → (number (oneTick timeStep rule fleet .answer) ≡ 0 → ⊥)
-      → oneTick timeStep rule fleet .fleet ≡ fleet
-  one-tick-refused few rests refused = go (isRefused opened) refl
-    where
-      go : (b : Bool) → isRefused opened ≡ b → oneTick timeStep rule fleet .fleet ≡ fleet
-      go true is =
-          sym (ap (λ (last : Called). last .fleet) (not-opened fleet timeStep rule opened refl is)) ∙ open-refused fleet timeStep rule (answers-more opened is)
-      go false is =
-          let opens = answers-zero opened is in
-          let fails : isRefused (closed opened) ≡ true = verdict-is is ∙ is-refused (oneTick timeStep rule fleet) refused in
-          sym (ap (λ (last : Called). last .fleet) (is-dropped (closed opened) fails ∙ flown-is is))
-          ∙ dropped-back fleet timeStep rule (closed opened .fleet) few opens (closed-alters opened fails)
-          ∙ sym (rests (open-shut fleet timeStep rule opens))
+pub one-tick-refused : OneTickRefused
+one-tick-refused timeStep rule fleet few rests refused = go (isRefused (opened timeStep rule fleet)) refl
+  where
+    go : (b : Bool) → isRefused (opened timeStep rule fleet) ≡ b → oneTick timeStep rule fleet .fleet ≡ fleet
+    go true is =
+        sym (ap (λ (last : Called). last .fleet) (not-opened fleet timeStep rule (opened timeStep rule fleet) refl is))
+        ∙ open-refused fleet timeStep rule (answers-more (opened timeStep rule fleet) is)
+    go false is =
+        let start = opened timeStep rule fleet in
+        let opens = answers-zero start is in
+        let fails : isRefused (closed start) ≡ true = verdict-is timeStep rule fleet is ∙ is-refused (oneTick timeStep rule fleet) refused in
+        sym (ap (λ (last : Called). last .fleet) (is-dropped (closed start) fails ∙ flown-is timeStep rule fleet is))
+        ∙ dropped-back fleet timeStep rule (closed start .fleet) few opens (closed-alters start fails)
+        ∙ sym (rests (open-shut fleet timeStep rule opens))
 
-pub one-tick-kept : (calls : List Call) → AllTyped calls → (timeStep : Float) (rule : Rule)
-    → let fleet = after (fleetOf []) calls in
-    (number (oneTick timeStep rule fleet .answer) ≡ 0 → ⊥) → oneTick timeStep rule fleet .fleet ≡ fleet
+pub one-tick-kept : OneTickKept
 one-tick-kept calls typed timeStep rule =
     one-tick-refused timeStep rule (after (fleetOf []) calls) (sound-run (fleetOf []) calls sound-empty typed .few) (rests-run (fleetOf []) calls rests-empty)

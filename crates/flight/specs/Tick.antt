@@ -9,7 +9,6 @@ use lib.Ieee.{Float}
 use Rattle.avoidance.specs.Checks.{fullScratch}
 use Rattle.fleet.specs.declared.Rule.{Rule}
 use Rattle.fleet.specs.declared.Fleet.{Fleet}
-use Rattle.fleet.specs.declared.Answer.{Answer}
 use Rattle.fleet.specs.declared.Called.{Called}
 use Rattle.fleet.specs.declared.Answer.the-variants.{Done}
 use Rattle.fleet.specs.Answer.{number}

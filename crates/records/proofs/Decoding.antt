@@ -17,6 +17,7 @@ use Rattle.records.specs.Record.{mostAgents, perRecord, blank}
 use Rattle.records.specs.Checks.{recordVerdict}
 use Rattle.records.specs.File.{recordBytes, wordIn, recordIn, recordsOf, wholeFile, recordsVerdict, fileVerdict, decodedAs, undecoded, decoded}
 use Rattle.records.specs.Reader.{recordAt, storedVerdict, handedAt}
+use Rattle.records.specs.Claims.{ReaderDecoded}
 use Rattle.records.proofs.Parts.{parts-length, part-at}
 use Rattle.records.proofs.Within.{whole-passed}
 use Rattle.records.proofs.Passed.{place-free, each-passed}
@@ -66,7 +67,7 @@ pub record-passes : (file : List ℕ) (k : ℕ) → fileVerdict file ≡ Passed 
 record-passes file k e h = place-free (0 + perRecord * k) (getD (recordsOf file) k blank) (each-passed 0 (recordsOf file) k (both file e .1) h)
 
 -- a reader hands out the very record that the file is decoded as at that index
-pub reader-decoded : (file : List ℕ) (k : ℕ) → fileVerdict file ≡ Passed → k < length (recordsOf file) → handedAt file k ≡ record { verdict = Passed; stored = getD (recordsOf file) k blank }
+pub reader-decoded : ReaderDecoded
 unfolding handedAt storedVerdict
 reader-decoded file k e h =
     let n = length file / recordBytes in

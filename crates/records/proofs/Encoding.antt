@@ -22,21 +22,11 @@ use Rattle.records.specs.declared.Record.{Record}
 use Rattle.records.specs.Record.{mostAgents, perRecord, blank}
 use Rattle.records.specs.Checks.{recordVerdict}
 use Rattle.records.specs.File.{recordBytes, wordIn, partsIn, wordsIn, recordIn, recordsOf, wholeFile, recordsVerdict, fileVerdict, bytesOfWord, bytesOfParts, bytesOfWords, bytesOf, fileOf, withRecord}
+use Rattle.records.specs.Claims.{Each, Below, WholeRecord, WordBack, BytesBack, RecordBack, BytesOfRecord, FileBack, BytesOfFile}
 use Rattle.records.proofs.Within.{whole-passes, whole-multiple}
 use Rattle.records.proofs.Passed.{all-passed}
 
 -- ---- what holds of each element of a list
-
-abbrev pub Each : {A : Type 0} → (A → Type 0) → List A → Type 0
-Each P [] = Unit {0}
-Each P (a ∷ rest) = P a × Each P rest
-
-abbrev pub Below : ℕ → List ℕ → Type 0
-Below bound xs = Each (λ (x : ℕ). x < bound) xs
-
--- a record as code has it: 19 words of 32 bits
-abbrev pub Whole : Record → Type 0
-Whole r = (length (r .words) ≡ perRecord) × Below (2 ^ 32) (r .words)
 
 each-of : {A : Type 0} {P : A → Type 0} → ((a : A) → P a) → (xs : List A) → Each P xs
 each-of holds [] = tt
@@ -102,14 +92,13 @@ parts-again size read write again (suc n) bytes room small =
 quotients : (w : ℕ) → (w / 65536 ≡ w / 256 / 256) × (w / 16777216 ≡ w / 65536 / 256)
 quotients w = (omega arith, omega arith)
 
-pub word-back : (w : ℕ) (rest : List ℕ) → w < 2 ^ 32 → wordIn (bytesOfWord w ++ rest) ≡ w
+pub word-back : WordBack
 unfolding wordIn bytesOfWord
 word-back w rest h =
     let last : w / 16777216 / 256 ≡ 0 = omega arith in
     omega (arith, quotients w .0, quotients w .1)
 
-pub bytes-back : (a b c d : ℕ) (rest : List ℕ) → a < 256 → b < 256 → c < 256 → d < 256
-    → bytesOfWord (wordIn (a ∷ b ∷ c ∷ d ∷ rest)) ≡ a ∷ b ∷ c ∷ d ∷ []
+pub bytes-back : BytesBack
 unfolding wordIn bytesOfWord
 bytes-back a b c d rest ha hb hc hd =
     let w = a + 256 * b + 65536 * c + 16777216 * d in
@@ -143,14 +132,14 @@ pub record-length : (r : Record) → length (r .words) ≡ perRecord → length 
 unfolding bytesOf
 record-length r all = omega (arith, words-length (r .words))
 
-pub record-back : (r : Record) (rest : List ℕ) → length (r .words) ≡ perRecord → Below (2 ^ 32) (r .words) → recordIn (bytesOf r ++ rest) ≡ r
+pub record-back : RecordBack
 unfolding recordIn bytesOf
-record-back r rest all small =
+record-back r rest (all, small) =
     ap (λ (n : ℕ). record { words = wordsIn n (bytesOfWords (r .words) ++ rest) }) (sym all)
     ∙ ap (λ (words : List ℕ). record { words = words })
     (parts-back 4 bytesOfWord (λ (w : ℕ). w < 2 ^ 32) (λ w h. word-length w) wordIn word-back (r .words) rest small)
 
-pub bytes-of-record : (bytes : List ℕ) → recordBytes ≤ length bytes → Below 256 bytes → bytesOf (recordIn bytes) ≡ take recordBytes bytes
+pub bytes-of-record : BytesOfRecord
 unfolding recordIn bytesOf
 bytes-of-record bytes room small = parts-again 4 wordIn bytesOfWord bytes-of-word perRecord bytes room small
 
@@ -159,26 +148,26 @@ bytes-of-record bytes room small = parts-again 4 wordIn bytesOfWord bytes-of-wor
 pub file-length : (rs : List Record) → Each (λ (r : Record). length (r .words) ≡ perRecord) rs → length (fileOf rs) ≡ recordBytes * length rs
 file-length rs all = bytes-length recordBytes bytesOf (λ (r : Record). length (r .words) ≡ perRecord) record-length rs all
 
-sized : (r : Record) → Whole r → length (bytesOf r) ≡ recordBytes
+sized : (r : Record) → WholeRecord r → length (bytesOf r) ≡ recordBytes
 sized r h = record-length r (h .0)
 
-pub whole-length : (rs : List Record) → Each Whole rs → length (fileOf rs) ≡ recordBytes * length rs
-whole-length rs whole = bytes-length recordBytes bytesOf Whole sized rs whole
+pub whole-length : (rs : List Record) → Each WholeRecord rs → length (fileOf rs) ≡ recordBytes * length rs
+whole-length rs whole = bytes-length recordBytes bytesOf WholeRecord sized rs whole
 
-pub file-back : (rs : List Record) → Each Whole rs → recordsOf (fileOf rs) ≡ rs
+pub file-back : FileBack
 file-back rs whole =
     let many : length (fileOf rs) / recordBytes ≡ length rs = omega (arith, whole-length rs whole) in
     ap₂ (partsIn recordBytes recordIn) many (sym (append-nil (fileOf rs)))
-    ∙ parts-back recordBytes bytesOf Whole sized recordIn (λ r rest h. record-back r rest (h .0) (h .1)) rs [] whole
+    ∙ parts-back recordBytes bytesOf WholeRecord sized recordIn record-back rs [] whole
 
-pub bytes-of-file : (file : List ℕ) → length file % recordBytes ≡ 0 → Below 256 file → fileOf (recordsOf file) ≡ file
+pub bytes-of-file : BytesOfFile
 bytes-of-file file multiple small =
     let n = length file / recordBytes in
     parts-again recordBytes recordIn bytesOf bytes-of-record n file (omega arith) small ∙ take-all (recordBytes * n) file (omega arith)
 
 -- ---- files that pass
 
-pub file-passes : (rs : List Record) → length rs ≤ mostAgents → Each Whole rs
+pub file-passes : (rs : List Record) → length rs ≤ mostAgents → Each WholeRecord rs
     → ((k : ℕ) → k < length rs → recordVerdict 0 (getD rs k blank) ≡ Passed) → fileVerdict (fileOf rs) ≡ Passed
 unfolding fileVerdict
 file-passes rs few whole passes =

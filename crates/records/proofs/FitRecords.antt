@@ -16,7 +16,7 @@ use Rattle.records.proofs.Passed.{passed-finite, passed-kind}
 
 module _ (r : Record) (passed : recordVerdict 0 r ≡ Passed) (all : length (r .words) ≡ perRecord) where
   allowed : (place : ℕ) → place < marginWord → Allowed (wordKind place) (numberAt r place)
-  allowed place h = (passed-finite r passed place (omega arith) all (λ e. omega arith), passed-kind r passed all place (omega arith))
+  allowed place h = (passed-finite r passed all place (omega arith) (λ e. omega arith), passed-kind r passed all place (omega arith))
 
   vector-finite : (place : ℕ) → place + 2 < marginWord → finiteVec (vectorFrom r place) ≡ true
   unfolding vectorFrom

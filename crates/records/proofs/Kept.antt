@@ -14,14 +14,14 @@ use Rattle.vectors.specs.Number.{toWord, finite}
 use Rattle.vectors.specs.Vec3.{finiteVec, IsBinary32}
 use Rattle.vectors.proofs.Finite.{finite-parts}
 use Rattle.vectors.proofs.Stored.{stored-finite}
-use Rattle.refusals.specs.declared.Verdict.the-variants.{Passed}
 use Rattle.refusals.proofs.Conditions.{set-good}
 use Rattle.avoidance.specs.declared.Asked.the-variants.{Finite, InRange}
 use Rattle.avoidance.specs.declared.Kind.the-variants.{Any}
 use Rattle.avoidance.proofs.Ranges.{never-outside}
 use Rattle.records.specs.declared.Record.{Record}
 use Rattle.records.specs.Record.{positionWord, velocityWord, goalWord, fallbackWord, marginWord, distanceWord, wordAt, numberAt, vectorFrom, withVector, withGoal, movedTo}
-use Rattle.records.specs.Checks.{badMargin, wordKind, badWord, recordVerdict}
+use Rattle.records.specs.Checks.{badMargin, wordKind, badWord}
+use Rattle.records.specs.Claims.{GoalPasses, MovedPasses}
 use Rattle.records.proofs.Passed.{Fit, passed-fit, fit-passed}
 
 -- ---- one word before the fallback's, of a kind with no range
@@ -68,12 +68,11 @@ pub moved-words : (r : Record) (position velocity : Vec3) → length (movedTo r 
 unfolding movedTo
 moved-words r position velocity = vector-words (withVector r velocityWord velocity) positionWord position ∙ vector-words r velocityWord velocity
 
-pub goal-passes : (r : Record) (goal : Vec3) → recordVerdict 0 r ≡ Passed → finiteVec goal ≡ true → IsBinary32 goal → recordVerdict 0 (withGoal goal r) ≡ Passed
+pub goal-passes : GoalPasses
 unfolding withGoal wordKind
 goal-passes r goal passed e is = fit-passed 0 (withGoal goal r) (vector-fit r goalWord goal (omega arith) (refl, refl, refl) e is (passed-fit 0 r passed))
 
-pub moved-passes : (r : Record) (position velocity : Vec3) → recordVerdict 0 r ≡ Passed
-    → finiteVec position ≡ true → IsBinary32 position → finiteVec velocity ≡ true → IsBinary32 velocity → recordVerdict 0 (movedTo r position velocity) ≡ Passed
+pub moved-passes : MovedPasses
 unfolding movedTo wordKind
 moved-passes r position velocity passed position-finite position-is velocity-finite velocity-is =
     fit-passed 0 (movedTo r position velocity)

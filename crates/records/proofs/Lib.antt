@@ -5,6 +5,7 @@ pub mod Passed
 pub mod Decoding
 pub mod Encoding
 pub mod Refusals
+pub mod Places
 pub mod Goals
 pub mod Kept
 pub mod FitRecords

@@ -1,6 +1,6 @@
 -- What a record that passed is: finite, each number in its range, its fallback of length 1; and whether it passes does not depend on where it stands.
 use mathlib.Core.Path.{_≡_, refl, ap, _∙_}
-use mathlib.Core.Bool.{true, false}
+use mathlib.Core.Bool.{false}
 use mathlib.Core.List.{List, [], _∷_}
 use Prim.Native.Nat.{ℕ, zero, suc, _+_, _*_, _<_}
 use native.Mathlib.Nat.{not-suc-le-zero, le-of-suc-le-suc, zero-lt-suc, zero-add}
@@ -17,11 +17,12 @@ use Rattle.refusals.specs.Verdict.{_⊳_, refusedIf, refusedAt}
 use Rattle.refusals.proofs.Conditions.{none-bad}
 use Rattle.refusals.proofs.Verdicts.{both-passed, nothing-found, does-not-hold}
 use Rattle.avoidance.specs.declared.Asked.the-variants.{Finite, InRange}
-use Rattle.avoidance.specs.Checks.{outside, badFallback}
+use Rattle.avoidance.specs.Checks.{badFallback}
 use Rattle.records.specs.declared.Record.{Record}
 use Rattle.records.specs.Record.{perRecord, fallbackWord, marginWord, blank, wordAt, numberAt, fallbackOf}
-use Rattle.records.specs.Checks.{badMargin, wordKind, badWord, recordVerdict}
+use Rattle.records.specs.Checks.{badMargin, badWord, recordVerdict}
 use Rattle.records.specs.File.{recordsVerdict}
+use Rattle.records.specs.Claims.{PassedFinite, PassedKind, PassedFallback}
 
 -- ---- the four checks
 
@@ -78,19 +79,18 @@ all-passed start (r ∷ rs) passes =
 
 -- ---- its words
 
-module _ (r : Record) (passed : recordVerdict 0 r ≡ Passed) where
-  -- every number is finite; the margin word is no number
-  pub passed-finite : (place : ℕ) → place < perRecord → length (r .words) ≡ perRecord → (place ≡ marginWord → ⊥) → finite (numberAt r place) ≡ true
-  unfolding badWord numberAt wordAt
-  passed-finite place h all other =
-      let good = none-bad (badWord Finite) 0 (r .words) (passed-fit 0 r passed .all-finite) place 0 (omega arith) in
-      not-false (finite (numberAt r place)) (simp (zero-add, ne-eqb place marginWord other) at good)
+-- every number is finite; the margin word is no number
+pub passed-finite : PassedFinite
+unfolding badWord numberAt wordAt
+passed-finite r passed all place h other =
+    let good = none-bad (badWord Finite) 0 (r .words) (passed-fit 0 r passed .all-finite) place 0 (omega arith) in
+    not-false (finite (numberAt r place)) (simp (zero-add, ne-eqb place marginWord other) at good)
 
-  pub passed-kind : length (r .words) ≡ perRecord → (place : ℕ) → place < perRecord → outside (wordKind place) (numberAt r place) ≡ false
-  unfolding badWord numberAt wordAt
-  passed-kind all place h =
-      let good = none-bad (badWord InRange) 0 (r .words) (passed-fit 0 r passed .in-range) place 0 (omega arith) in
-      simp zero-add at good
+pub passed-kind : PassedKind
+unfolding badWord numberAt wordAt
+passed-kind r passed all place h =
+    let good = none-bad (badWord InRange) 0 (r .words) (passed-fit 0 r passed .in-range) place 0 (omega arith) in
+    simp zero-add at good
 
-  pub passed-fallback : badFallback (fallbackOf r) ≡ false
-  passed-fallback = passed-fit 0 r passed .fallback
+pub passed-fallback : PassedFallback
+passed-fallback r passed = passed-fit 0 r passed .fallback

@@ -1,17 +1,22 @@
--- The checks of a record and of a file refuse with N exactly when N's condition of `specs/Conditions.antt` is the first that holds.
-use mathlib.Core.Path.{_≡_, refl}
+-- The checks of a record, of a file and of a reader refuse with N exactly when N's condition of `specs/Conditions.antt` is the first that holds.
+--     record-exactly, file-exactly, reader-exactly; record-says and its like are the same for the layers above
+use mathlib.Core.Path.{_≡_, refl, sym, ap, _∙_}
 use mathlib.Core.Bool.{Bool, true, false, not, _&&_, _||_, cond}
 use mathlib.Core.List.{List, [], _∷_}
-use Prim.Native.Nat.{ℕ, zero, suc, _+_, _/_, _%_}
+use Prim.Native.Nat.{ℕ, zero, suc, _+_, _*_, _/_, _%_}
 use native.Mathlib.Omega.{arith}
 use lib.Dec.{leb, ltb, eqb}
 use lib.ListN.{length}
 use borrow.Author.Tests.{ltb-true, ltb-false, leb-true, leb-false, lt-ltb, le-ltb, le-leb, lt-leb, ne-eqb}
+use Rattle.vectors.proofs.Truth.{no-truth}
 use Rattle.refusals.specs.declared.Found.the-variants.{At, Nothing}
 use Rattle.refusals.specs.declared.Refusal.the-variants.{NotFinite, OutOfRange, BadFallback, NoAgent, BadFile, BadMargin}
+use Rattle.refusals.specs.declared.Verdict.{Verdict}
+use Rattle.refusals.specs.declared.Verdict.the-variants.{Passed, Refused}
 use Rattle.refusals.specs.Conditions.{isFound, some, marked, firstBad}
 use Rattle.refusals.specs.Verdict.{_⊳_, refusedIf, refusedAt}
-use Rattle.refusals.proofs.Verdicts.{Says, then, held-says, tested-says, found-says, none-says}
+use Rattle.refusals.proofs.Conditions.{no-place, same-place}
+use Rattle.refusals.proofs.Verdicts.{not-answered, Says, then, held-says, tested-says, found-says, none-says}
 use Rattle.avoidance.specs.declared.Asked.{Asked}
 use Rattle.avoidance.specs.declared.Asked.the-variants.{Finite, InRange}
 use Rattle.avoidance.specs.Checks.{badFallback}
@@ -19,7 +24,9 @@ use Rattle.records.specs.declared.Record.{Record}
 use Rattle.records.specs.Record.{mostAgents, perRecord, fallbackWord, marginWord, distanceWord, wordAt, fallbackOf}
 use Rattle.records.specs.Checks.{indexAmong, badMargin, badWord, recordVerdict}
 use Rattle.records.specs.File.{recordBytes, recordsOf, wholeFile, recordsVerdict, fileVerdict}
-use Rattle.records.specs.Conditions.{marginWrong, recordConditions, recordsConditions, wrongFile, fileConditions}
+use Rattle.records.specs.Reader.{recordAt, storedVerdict}
+use Rattle.records.specs.Conditions.{marginWrong, recordConditions, recordsConditions, wrongFile, fileConditions, readerConditions}
+use Rattle.records.specs.Claims.{Exactly, RecordExactly, FileExactly, ReaderExactly}
 
 -- ---- one test is the other's contrary
 
@@ -88,3 +95,33 @@ file-says file =
 
 pub among-says : (count index : ℕ) → Says (indexAmong count index) ((8, leb count index) ∷ [])
 among-says count index = tested-says (ltb index count) (leb count index) (NoAgent index) (le-not-lt index count)
+
+stored-says : (file : List ℕ) (index : ℕ) → Says (storedVerdict file index) (readerConditions file index)
+unfolding storedVerdict readerConditions
+stored-says file index =
+    let count = length file / recordBytes in
+    let there = indexAmong count index in
+    let own = recordVerdict (perRecord * index) (recordAt file index) in
+    then (wholeFile (length file)) (there ⊳ own) ((14, wrongFile file) ∷ []) _ (whole-says file)
+    (then there own ((8, leb count index) ∷ []) (recordConditions (recordAt file index)) (among-says count index) (record-says (perRecord * index) (recordAt file index)))
+
+-- ---- by number
+
+says-exactly : (v : Verdict) (cs : List (ℕ × Bool)) → Says v cs → Exactly v cs
+says-exactly Passed cs says = record {
+  refused = λ n more. (λ e. absurd (omega (arith, e, more)), λ h. no-place (says ∙ h));
+  passed = (λ e. ap isFound (sym says), λ none. refl);
+}
+says-exactly (Refused why) cs says = record {
+  refused = λ n more. (λ e. sym says ∙ ap At e, λ h. same-place (says ∙ h));
+  passed = (λ e. absurd (not-answered why e), λ none. no-truth (sym none ∙ ap isFound (sym says)));
+}
+
+pub record-exactly : RecordExactly
+record-exactly start r = says-exactly (recordVerdict start r) (recordConditions r) (record-says start r)
+
+pub file-exactly : FileExactly
+file-exactly file = says-exactly (fileVerdict file) (fileConditions file) (file-says file)
+
+pub reader-exactly : ReaderExactly
+reader-exactly file index = says-exactly (storedVerdict file index) (readerConditions file index) (stored-says file index)

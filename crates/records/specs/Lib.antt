@@ -4,3 +4,4 @@ pub mod Checks
 pub mod File
 pub mod Reader
 pub mod Conditions
+pub mod Claims

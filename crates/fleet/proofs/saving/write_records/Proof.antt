@@ -16,7 +16,8 @@ use Rattle.records.specs.declared.Record.{Record}
 use Rattle.records.specs.Record.{perRecord}
 use Rattle.records.specs.File.{fileOf}
 use Rattle.records.proofs.Record.{the-type}
-use Rattle.records.proofs.Encoding.{Each, file-length, file-none, file-more}
+use Rattle.records.specs.Claims.{Each}
+use Rattle.records.proofs.Encoding.{file-length, file-none, file-more}
 use Rattle.fleet.proofs.saving.write_records.Statement.{statement}
 use Rattle.fleet.proofs.saving.write_records.Tie as tie
 
