@@ -27,7 +27,8 @@ use Rattle.avoidance.specs.Checks.{badNumber}
 use Rattle.avoidance.specs.Reply as reply
 use Rattle.avoidance.specs.Reply.{nameOf, renamed}
 use Rattle.avoidance.proofs.ReplyLaws.{renamed-number, renamed-place}
-use Rattle.avoidance.proofs.velocity.CallLaws.{bad-plane-lowest, bad-plane-renamed}
+use Rattle.avoidance.proofs.velocity.CallLaws.{bad-plane-renamed}
+use Rattle.avoidance.proofs.velocity.Places.{places-by-answer}
 use Rattle.records.specs.declared.Record.{Record}
 use Rattle.records.specs.Record.{goalWord, mostAgents}
 use Rattle.records.specs.Checks.{indexAmong, recordVerdict}
@@ -167,7 +168,7 @@ module _ (fleet : Fleet) (timeStep : Float) (rule : Rule) (is : fleet .tick ≡ 
           let e = eqb-true (reply.number replied) 6 six in
           subst (λ (n : ℕ). OfPlan n (reply.placeOf (renamed names replied))) (sym (renamed-number names replied ∙ e))
           (subst (OfPlan 6) (sym (bad-plane-renamed names replied e))
-          (Placed.plan-6 timeStep rule index scratch is (reply.placeOf replied) (bad-plane-lowest (planRequest fleet timeStep index) (planNeighbours fleet rule index) (length scratch) _ e)))
+          (Placed.plan-6 timeStep rule index scratch is (reply.placeOf replied) (places-by-answer (planRequest fleet timeStep index) (planNeighbours fleet rule index) (length scratch) .of-6 e _)))
       go false six =
           let other = eqb-false (reply.number replied) 6 six in
           subst (λ (n : ℕ). OfPlan n (reply.placeOf (renamed names replied))) (sym (renamed-number names replied))

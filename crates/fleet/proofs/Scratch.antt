@@ -14,10 +14,8 @@ use Rattle.refusals.specs.declared.Verdict.the-variants.{Passed, Refused}
 use Rattle.avoidance.specs.declared.Request.{Request}
 use Rattle.avoidance.specs.Checks.{neededScratch}
 use Rattle.avoidance.specs.Velocity.{scratchAfter}
-use Rattle.avoidance.specs.Conditions.{scratchBy}
 use Rattle.avoidance.proofs.ReplyLaws.{renamed-number}
-use Rattle.avoidance.proofs.velocity.Places.{scratch-by-number}
-use Rattle.avoidance.proofs.velocity.CallLaws.{past-untouched}
+use Rattle.avoidance.proofs.velocity.Places as call
 use Rattle.fleet.specs.declared.Rule.{Rule}
 use Rattle.fleet.specs.declared.Tick.{Tick}
 use Rattle.fleet.specs.declared.Tick.the-variants.{Shut, Open}
@@ -31,8 +29,7 @@ use Rattle.fleet.specs.Claims.{_∈_, planRequest, planNeighbours, planR
 -- ---- what the velocity call leaves, by number
 
 module _ (request : Request) (neighbours scratch : List Float) where
-  by-early : (n : ℕ) → n ∈ (8 ∷ 11 ∷ 1 ∷ 2 ∷ 3 ∷ 4 ∷ 5 ∷ 17 ∷ []) → scratchBy n request neighbours scratch ≡ scratch
-  unfolding scratchBy
+  by-early : (n : ℕ) → n ∈ (8 ∷ 11 ∷ 1 ∷ 2 ∷ 3 ∷ 4 ∷ 5 ∷ 17 ∷ []) → call.leftBy request neighbours scratch n ≡ scratch
   by-early n (inl e) = rw e
   by-early n (inr (inl e)) = rw e
   by-early n (inr (inr (inl e))) = rw e
@@ -43,8 +40,7 @@ module _ (request : Request) (neighbours scratch : List Float) where
   by-early n (inr (inr (inr (inr (inr (inr (inr (inl e)))))))) = rw e
   by-early n (inr (inr (inr (inr (inr (inr (inr (inr none)))))))) = absurd none
 
-  by-late : (n : ℕ) → n ∈ (6 ∷ 7 ∷ 18 ∷ []) → scratchBy n request neighbours scratch ≡ replicate (neededScratch neighbours) zero ++ drop (neededScratch neighbours) scratch
-  unfolding scratchBy
+  by-late : (n : ℕ) → n ∈ (6 ∷ 7 ∷ 18 ∷ []) → call.leftBy request neighbours scratch n ≡ replicate (neededScratch neighbours) zero ++ drop (neededScratch neighbours) scratch
   by-late n (inl e) = rw e
   by-late n (inr (inl e)) = rw e
   by-late n (inr (inr (inl e))) = rw e
@@ -65,16 +61,16 @@ module _ (fleet : Fleet) (index : ℕ) (scratch : List Float) (timeStep : Float)
   abbrev answered : ℕ
   answered = number (planOpen timeStep rule fleet index (length scratch) .answer)
 
-  open-left : left ≡ scratchBy answered asked neighbours scratch
-  unfolding scratchOpen scratchOf planOpen answeredBy hasAgent replyFor replyScratch scratchBy
+  open-left : left ≡ call.leftBy asked neighbours scratch answered
+  unfolding scratchOpen scratchOf planOpen answeredBy hasAgent replyFor replyScratch
   open-left = go (ltb index (length (agents fleet)))
     where
       go : (there : Bool)
           → scratchOf (cond there Passed (Refused (NoAgent index))) scratch (scratchAfter asked neighbours scratch)
-          ≡ scratchBy (number (answeredBy (cond there Passed (Refused (NoAgent index))) fleet index (replyFor timeStep rule (agents fleet) index (length scratch)) .answer)) asked neighbours scratch
+          ≡ call.leftBy asked neighbours scratch (number (answeredBy (cond there Passed (Refused (NoAgent index))) fleet index (replyFor timeStep rule (agents fleet) index (length scratch)) .answer))
       go true =
-          scratch-by-number asked neighbours scratch
-          ∙ ap (λ (n : ℕ). scratchBy n asked neighbours scratch) (sym (renamed-number (neighbourIndices rule (agents fleet) index) (planReply fleet timeStep rule index scratch)))
+          call.scratch-left asked neighbours scratch
+          ∙ ap (λ (n : ℕ). call.leftBy asked neighbours scratch n) (sym (renamed-number (neighbourIndices rule (agents fleet) index) (planReply fleet timeStep rule index scratch)))
       go false = refl
 
   open-planes : answered ≡ 0 → left ≡ scratchAfter asked neighbours scratch
@@ -91,7 +87,7 @@ module _ (fleet : Fleet) (index : ℕ) (scratch : List Float) (timeStep : Float)
   open-past = go (ltb index (length (agents fleet)))
     where
       go : (there : Bool) → drop (neededScratch neighbours) (scratchOf (cond there Passed (Refused (NoAgent index))) scratch (scratchAfter asked neighbours scratch)) ≡ drop (neededScratch neighbours) scratch
-      go true = past-untouched asked neighbours scratch
+      go true = call.scratch-by-answer asked neighbours scratch .past
       go false = refl
 
 -- ---- a plan
@@ -110,12 +106,12 @@ module _ (fleet : Fleet) (index : ℕ) (scratch : List Float) where
   answer-is tick is = ap (λ (t : Tick). number (planIn t fleet index (length scratch) .answer)) is
 
   plan-left : (timeStep : Float) (rule : Rule) → fleet .tick ≡ Open timeStep rule
-      → planScratch fleet index scratch ≡ scratchBy answer (planRequest fleet timeStep index) (planNeighbours fleet rule index) scratch
+      → planScratch fleet index scratch ≡ call.leftBy (planRequest fleet timeStep index) (planNeighbours fleet rule index) scratch answer
   unfolding scratchIn planIn
   plan-left timeStep rule is =
       left-is (Open timeStep rule) is
       ∙ open-left fleet index scratch timeStep rule
-      ∙ ap (λ (n : ℕ). scratchBy n (planRequest fleet timeStep index) (planNeighbours fleet rule index) scratch) (sym (answer-is (Open timeStep rule) is))
+      ∙ ap (λ (n : ℕ). call.leftBy (planRequest fleet timeStep index) (planNeighbours fleet rule index) scratch n) (sym (answer-is (Open timeStep rule) is))
 
   plan-untouched : answer ∈ (8 ∷ 11 ∷ 1 ∷ 2 ∷ 3 ∷ 4 ∷ 5 ∷ 17 ∷ []) → planScratch fleet index scratch ≡ scratch
   unfolding scratchIn

@@ -168,7 +168,7 @@ places-by-answer request neighbours k =
 -- ---- scratch
 
 -- the numbers that leave +0
-abbrev clears : ℕ → Bool
+abbrev pub clears : ℕ → Bool
 clears answer = eqb answer 6 || eqb answer 18 || eqb answer 7
 
 -- those that leave it untouched, and those that clear it
@@ -179,19 +179,19 @@ abbrev Late : Refusal → Type 0
 Late r = (eqb (refusals.number r) 0 ≡ false) × (clears (refusals.number r) ≡ true)
 
 module _ (request : Request) (neighbours scratch : List Float) where
-  abbrev many : ℕ
+  abbrev pub many : ℕ
   many = agentCount neighbours
 
-  abbrev planes : List Plane
+  abbrev pub planes : List Plane
   planes = planesOfCall request neighbours
 
   -- what is left in scratch, as one function of the answer's number
-  abbrev leftOf : Bool → Bool → List Float
+  abbrev pub leftOf : Bool → Bool → List Float
   leftOf answered cleared =
       cond answered (numbersOfPlanes planes ++ replicate (6 * many) zero ++ drop (12 * many) scratch)
       (cond cleared (replicate (12 * many) zero ++ drop (12 * many) scratch) scratch)
 
-  abbrev leftBy : ℕ → List Float
+  abbrev pub leftBy : ℕ → List Float
   leftBy answer = leftOf (eqb answer 0) (clears answer)
 
   checks-early : Gives Early (checks request neighbours (length scratch))
@@ -210,7 +210,7 @@ module _ (request : Request) (neighbours scratch : List Float) where
   left verdict.Passed reply early late = planned-left reply late
   left (verdict.Refused r) reply (answered, cleared) late = rw (answered, cleared)
 
-  scratch-left : scratchAfter request neighbours scratch ≡ leftBy (number (velocityCall request neighbours (length scratch)))
+  pub scratch-left : scratchAfter request neighbours scratch ≡ leftBy (number (velocityCall request neighbours (length scratch)))
   unfolding scratchAfter velocityCall
   scratch-left = left (checks request neighbours (length scratch)) (plannedReply request neighbours) checks-early planned-late
 
