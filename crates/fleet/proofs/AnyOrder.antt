@@ -280,12 +280,12 @@ any-order-dropped fleet timeStep rule calls made = (plans-stand fleet timeStep r
 
 pub plan-repeated : PlanRepeated
 unfolding replyFor
-plan-repeated fleet timeStep rule calls later made made′ index scratch again enough enough′ =
+plan-repeated fleet timeStep rule calls others made made′ index scratch again enough enough′ =
     let rs = agents fleet in
     plan-there fleet timeStep rule calls made index scratch
     ∙ ap (λ (r : Reply). answerBy (indexAmong (length rs) index) (renamed (neighbourIndices rule rs index) r))
     (enough-scratch (requestFor (ownRecord rs index) timeStep) (neighboursOf rule rs index) (length scratch) (length again) enough enough′)
-    ∙ sym (plan-there fleet timeStep rule later made′ index again)
+    ∙ sym (plan-there fleet timeStep rule others made′ index again)
 
 -- the order, the number and the scratch of plans do not show: only the accepted goal calls do
 pub order-unseen : OrderUnseen
@@ -302,8 +302,17 @@ unfolding run after
 answered-in-turn fleet [] call later = refl
 answered-in-turn fleet (first ∷ before) call later = ap (λ (rest : List (Call × Answer)). (first, step fleet first .answer) ∷ rest) (answered-in-turn (step fleet first .fleet) before call later)
 
+run-append : (fleet : Fleet) (calls more : List Call) → run fleet (calls ++ more) ≡ run fleet calls ++ run (after fleet calls) more
+unfolding run after
+run-append fleet [] more = refl
+run-append fleet (call ∷ calls) more = ap (λ (rest : List (Call × Answer)). (call, step fleet call .answer) ∷ rest) (run-append (step fleet call .fleet) calls more)
+
 pub refused-unseen : RefusedUnseen
-unfolding after run accepted
-refused-unseen fleet call calls refused =
-    let same : step fleet call .fleet ≡ fleet = refused-unchanged fleet call (eqb-false (number (step fleet call .answer)) 0 refused) in
-    (ap (λ (next : Fleet). after next calls) same, ap (λ (next : Fleet). (call, step fleet call .answer) ∷ run next calls) same)
+unfolding after accepted
+refused-unseen fleet before call later refused =
+    let stood = after fleet before in
+    let same : step stood call .fleet ≡ stood = refused-unchanged stood call (eqb-false (number (step stood call .answer)) 0 refused) in (
+      after-append fleet before (call ∷ later) ∙ ap (λ (next : Fleet). after next later) same ∙ sym (after-append fleet before later),
+      answered-in-turn fleet before call later ∙ ap (λ (next : Fleet). run fleet before ++ (call, step stood call .answer) ∷ run next later) same,
+      run-append fleet before later,
+    )

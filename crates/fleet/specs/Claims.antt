@@ -123,7 +123,7 @@ pub data Placed (fleet : Fleet) : Call → (number place : ℕ) → Type 0 where
       → (neighbour : ℕ) → Lowest badPlane 0 (planesOfCall (planRequest fleet timeStep index) (planNeighbours fleet rule index)) (record { point = zeroVec; normal = zeroVec }) neighbour
       → Placed fleet (Call.plan index scratch) 6 (getD (neighbourIndices rule (agents fleet) index) neighbour 0)
 
--- Every answer to a call has that place.
+-- Every answer, to every call on every fleet, has its place so.
 abbrev pub AnswerPlaces : Type 0
 AnswerPlaces = (fleet : Fleet) (call : Call) → Placed fleet call (number (step fleet call .answer)) (placeOf (step fleet call .answer))
 
@@ -133,11 +133,13 @@ AnswerPlaces = (fleet : Fleet) (call : Call) → Placed fleet call (number (step
 abbrev pub RefusedUnchanged : Type 0
 RefusedUnchanged = (fleet : Fleet) (call : Call) → (number (step fleet call .answer) ≡ 0 → ⊥) → step fleet call .fleet ≡ fleet
 
--- A refused call can be struck out of a run: the table after the run and every later answer are the same.
+-- A refused call can be struck out of a run: the table afterwards, the answers before it and every later answer are the same.
 abbrev pub RefusedUnseen : Type 0
 RefusedUnseen =
-    (fleet : Fleet) (call : Call) (calls : List Call) → accepted fleet call ≡ false
-    → (after fleet (call ∷ calls) ≡ after fleet calls) × (run fleet (call ∷ calls) ≡ (call, step fleet call .answer) ∷ run fleet calls)
+    (fleet : Fleet) (before : List Call) (call : Call) (later : List Call) → accepted (after fleet before) call ≡ false
+    → (after fleet (before ++ call ∷ later) ≡ after fleet (before ++ later))
+    × (run fleet (before ++ call ∷ later) ≡ run fleet before ++ (call, step (after fleet before) call .answer) ∷ run (after fleet before) later)
+    × (run fleet (before ++ later) ≡ run fleet before ++ run (after fleet before) later)
 
 -- The velocity of an answer that is not 0 is three +0s.
 abbrev pub RefusedZeros : Type 0
@@ -172,7 +174,7 @@ ScratchByAnswer =
 abbrev pub SoundEmpty : Type 0
 SoundEmpty = Sound (fleetOf [])
 
--- Every call on a sound fleet, answered or refused, hands back a sound one.
+-- Every call on a sound fleet, answered or refused, hands back a sound one; that its arguments are of their types is `Typed`.
 abbrev pub SoundKept : Type 0
 SoundKept = (fleet : Fleet) (call : Call) → Sound fleet → Typed call → Sound (step fleet call .fleet)
 
@@ -234,11 +236,11 @@ AnyOrderDropped =
 -- Two plans of one agent in one tick, each with scratch enough, answer the same, whatever calls came before each: a plan repeated answers the same.
 abbrev pub PlanRepeated : Type 0
 PlanRepeated =
-    (fleet : Fleet) (timeStep : Float) (rule : Rule) (calls later : List Call) → InTick fleet timeStep rule calls → InTick fleet timeStep rule later
+    (fleet : Fleet) (timeStep : Float) (rule : Rule) (calls others : List Call) → InTick fleet timeStep rule calls → InTick fleet timeStep rule others
     → (index : ℕ) (scratch again : List Float)
     → neededScratch (planNeighbours fleet rule index) ≤ length scratch → neededScratch (planNeighbours fleet rule index) ≤ length again
     → let opened = openedOn fleet timeStep rule in
-    step (after opened calls) (Call.plan index scratch) .answer ≡ step (after opened later) (Call.plan index again) .answer
+    step (after opened calls) (Call.plan index scratch) .answer ≡ step (after opened others) (Call.plan index again) .answer
 
 -- Two runs of one opening with the same accepted goal calls in the same order close to the same table, whatever the order, the number and the
 -- scratch of their plans.
