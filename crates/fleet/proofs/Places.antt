@@ -43,7 +43,7 @@ use Rattle.fleet.specs.declared.Fleet.{Fleet}
 use Rattle.fleet.specs.Answer.{number, placeOf}
 use Rattle.fleet.specs.Table.{agents, settled, shut, hasAgent, room, addVerdict, addCall, putVerdict, putCall, removeVerdict, removeCall, answerTo, readCall}
 use Rattle.fleet.specs.Load.{loadVerdict, loadCall}
-use Rattle.fleet.specs.Save.{neededBytes, shortBuffer, saveVerdict, saveCall}
+use Rattle.fleet.specs.Save.{shortBuffer, saveVerdict, saveCall}
 use Rattle.fleet.specs.Tick.{stepVerdict, openVerdict, openCall, goalFault, goalVerdict, goalCall, unplanned, astray, arrivals, closeVerdict, closeOpen, closeIn, closeCall, opened, dropCall}
 use Rattle.fleet.specs.Plan.{neighbourIndices, replyFor, answeredBy, planOpen, planIn, planCall}
 use Rattle.fleet.specs.Calls.{Call, step}
@@ -194,8 +194,7 @@ unfolding step loadCall loadVerdict saveCall saveVerdict addCall addVerdict putC
 answer-places fleet (Call.load file) = shut-then fleet (Call.load file) (fleet .tick) (fileVerdict file) _ (file-gives fleet file)
 answer-places fleet (Call.save buffer) =
     let short = shortBuffer fleet (length buffer) in
-    let why = refusal.ShortBuffer (neededBytes fleet) in
-    told-placed fleet (Call.save buffer) (refusedIf short why) (gives-held (Of fleet (Call.save buffer)) short why (Placed.save-16 buffer))
+    told-placed fleet (Call.save buffer) (refusedIf short _) (gives-held (Of fleet (Call.save buffer)) short _ (Placed.save-16 buffer))
 answer-places fleet (Call.add words) =
     let call = Call.add words in
     let r : Record = record { words = words } in

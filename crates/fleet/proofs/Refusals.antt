@@ -52,7 +52,7 @@ use Rattle.fleet.specs.declared.Fleet.{Fleet}
 use Rattle.fleet.specs.Answer.{number}
 use Rattle.fleet.specs.Table.{agents, settled, shut, hasAgent, room, addVerdict, addCall, putVerdict, putCall, removeVerdict, removeCall, answerTo, readCall}
 use Rattle.fleet.specs.Load.{loadVerdict, loadCall}
-use Rattle.fleet.specs.Save.{neededBytes, shortBuffer, saveVerdict, saveCall}
+use Rattle.fleet.specs.Save.{shortBuffer, saveVerdict, saveCall}
 use Rattle.fleet.specs.Tick.{stepVerdict, openCall, goalFault, goalVerdict, goalCall, unplanned, astray, arrivals, openVerdict, closeVerdict, closeOpen, closeIn, closeCall, opened, dropCall}
 use Rattle.fleet.specs.Plan.{requestFor, ownRecord, neighbourIndices, neighboursOf, replyFor, plansAfter, fleetAfter, answeredBy, planOpen, planIn, planCall}
 use Rattle.fleet.specs.Calls.{Call, step, isOpen, noAgent, planConditions, closeConditions, callConditions}
@@ -171,8 +171,7 @@ unfolding step callConditions loadCall loadVerdict saveCall saveVerdict addCall 
 call-says fleet (Call.load file) = shut-then (fleet .tick) fleet _ (fileVerdict file) (fileConditions file) (file-says file)
 call-says fleet (Call.save buffer) =
     let short = shortBuffer fleet (length buffer) in
-    let why = refusal.ShortBuffer (neededBytes fleet) in
-    read-says (refusedIf short why) ((16, short) ∷ []) (held-says short why)
+    read-says (refusedIf short _) ((16, short) ∷ []) (held-says short _)
 call-says fleet (Call.add words) =
     let r : Record = record { words = words } in
     let count = length (agents fleet) in
