@@ -26,6 +26,7 @@ use Rattle.avoidance.specs.Reply.{isAnswered, number, placeOf, velocityO
 use Rattle.avoidance.specs.Velocity.{plannedReply, velocityCall}
 use Rattle.avoidance.specs.Claims.{AnyScratch}
 use Rattle.avoidance.proofs.Refusals.{refusedWith}
+use Rattle.avoidance.proofs.velocity.CallLaws.{enough-scratch}
 
 -- ---- the number of an answer is 0
 
@@ -119,14 +120,8 @@ module _ (request : Request) (neighbours : List Float) (k : ℕ) (passed : check
       let unfit = refusedIf (badFallback (request .fallback)) (BadFallback fallbackPlace) in
       does-not-hold (badFallback (request .fallback)) (BadFallback fallbackPlace) (both-passed outside unfit (both-passed unfinite (outside ⊳ unfit) (long-and-rest .1) .1) .1)
 
-  -- and any other that is passes too
-  pub passed-again : (enough : ℕ) → neededScratch neighbours ≤ enough → checks request neighbours enough ≡ verdict.Passed
-  unfolding checks
-  passed-again enough fits =
-      rw (whole-and-rest .0, few-and-rest .0, le-ltb enough (neededScratch neighbours) fits) (long-and-rest .1)
-
 pub any-scratch : AnyScratch
 unfolding velocityCall
 any-scratch request neighbours k enough fits answered =
     let passed = answered-passed (checks request neighbours k) (plannedReply request neighbours) answered in
-    ap (λ (v : Verdict). settledBy v Refused (plannedReply request neighbours)) (passed-again request neighbours k passed enough fits ∙ sym passed)
+    enough-scratch request neighbours enough k fits (passed-fits request neighbours k passed)

@@ -132,7 +132,13 @@ SameCall =
     (request : Request) (neighbours scratch after after′ : List Float) (reply reply′ : Reply)
     → Meets request neighbours scratch reply after → Meets request neighbours scratch reply′ after′ → (reply ≡ reply′) × (after ≡ after′)
 
--- An answer given with some scratch is given with any scratch of 12 numbers for each neighbour, or more.
+-- Whatever scratch has 12 numbers for each neighbour, or more, is enough: the reply is the same.
+abbrev pub EnoughScratch : Type 0
+EnoughScratch =
+    (request : Request) (neighbours : List Float) (given more : ℕ) → 12 * agentCount neighbours ≤ given → 12 * agentCount neighbours ≤ more
+    → velocityCall request neighbours given ≡ velocityCall request neighbours more
+
+-- An answer given with some scratch is given with any scratch that is enough.
 abbrev pub AnyScratch : Type 0
 AnyScratch =
     (request : Request) (neighbours : List Float) (given enough : ℕ) → 12 * agentCount neighbours ≤ enough → isAnswered (velocityCall request neighbours given) ≡ true

@@ -33,7 +33,7 @@ marked bad i (x ∷ xs) = (i, bad i x) ∷ marked bad (suc i) xs
 abbrev pub firstBad : {A : Type 0} → (ℕ → A → Bool) → ℕ → List A → Found
 firstBad bad i xs = firstHolding (marked bad i xs)
 
--- what that means: the element is bad, and none before it is
+-- what that means: the element at that place, which counts from `start`, is bad, and none before it is (d stands for what is past the list's end, and is never read)
 pub record Lowest {A : Type 0} (bad : ℕ → A → Bool) (start : ℕ) (xs : List A) (d : A) (place : ℕ) : Type 0 where
   pub index : ℕ
   pub at : place ≡ start + index

@@ -1,21 +1,17 @@
--- What the layers above need to know of a velocity call.
---     enough-scratch: of scratch it reads only whether it is enough
---     bad-plane-renamed: by other names the place of 6 is that neighbour's
+-- What the layers above need to know of a velocity call: of scratch it reads only whether it is enough; and by other names the place of 6 is that neighbour's.
 use mathlib.Core.Path.{_≡_}
 use mathlib.Core.List.{List}
-use Prim.Native.Nat.{ℕ, _≤_}
+use Prim.Native.Nat.{ℕ}
 use native.Mathlib.Omega.{arith}
-use lib.Ieee.{Float}
 use borrow.Author.Tests.{le-ltb}
-use Rattle.avoidance.specs.declared.Request.{Request}
 use Rattle.avoidance.specs.declared.Reply.{Reply}
 use Rattle.avoidance.specs.declared.Reply.the-variants.{Answered, Refused}
 use Rattle.avoidance.specs.Checks.{neededScratch, checks}
 use Rattle.avoidance.specs.Reply.{number, placeOf, nameOf, renamedRefusal, renamed}
 use Rattle.avoidance.specs.Velocity.{velocityCall}
+use Rattle.avoidance.specs.Claims.{EnoughScratch}
 
-pub enough-scratch : (request : Request) (neighbours : List Float) (k more : ℕ) → neededScratch neighbours ≤ k → neededScratch neighbours ≤ more
-    → velocityCall request neighbours k ≡ velocityCall request neighbours more
+pub enough-scratch : EnoughScratch
 unfolding velocityCall checks
 enough-scratch request neighbours k more fits fits′ = rw (le-ltb k (neededScratch neighbours) fits, le-ltb more (neededScratch neighbours) fits′)
 
