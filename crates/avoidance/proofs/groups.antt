@@ -1,3 +1,2 @@
 -- Laws on lanes, beside the proofs of the functions of a group.
 pub mod Lanes
-pub mod LanePlane

@@ -1,2 +1,3 @@
--- The law of the stages, beside the proofs of their functions.
+-- Laws of the stages, beside the proofs of their functions.
+pub mod Select
 pub mod InStages

@@ -14,12 +14,9 @@ use super::Reply;
 use super::Request;
 use super::checks::checks;
 use super::groups::LANES;
-use super::groups::approaches;
-use super::groups::directions;
-use super::groups::lengths;
+use super::groups::planes_of;
 use super::lent::agent_at;
 use super::neighbour::plane_for;
-use super::stages::plane_with;
 use refusals::Found;
 use refusals::Refusal;
 use refusals::Verdict;
@@ -108,21 +105,26 @@ fn write_group(
         let made = plane_of(request, neighbours, start);
         return write_made(scratch, start, made, unseen);
     }
-    let approaches = approaches(request, neighbours, start, size);
-    let directions = directions(approaches);
-    let lengths = lengths(directions);
+    let planes = planes_of(request, neighbours, start, size);
     let mut unseen = unseen;
     let mut lane = 0;
     while lane < size {
-        let made = plane_with(
-            request.agent,
-            approaches[lane],
-            directions[lane],
-            lengths[lane],
-            request.horizon,
-            request.time_step,
-            request.fallback,
-        );
+        let plane = Plane {
+            point: Vec3 {
+                x: planes.point_x[lane],
+                y: planes.point_y[lane],
+                z: planes.point_z[lane],
+            },
+            normal: Vec3 {
+                x: planes.normal_x[lane],
+                y: planes.normal_y[lane],
+                z: planes.normal_z[lane],
+            },
+        };
+        let made = NeighbourPlane {
+            plane,
+            unseen: planes.unseen[lane],
+        };
         unseen = match write_made(scratch, start + lane, made, unseen) {
             Made::Finite(found) => found,
             Made::NotFinite(neighbour) => {

@@ -1,23 +1,17 @@
 -- `planeFor` in three stages, with a square root after the first and another after the second: what is rooted, and what goes on from the root.
--- The law `in-stages` (proofs/stages/InStages.antt) says that with `root` between them they make the same plane.
-use mathlib.Core.Bool.{Bool, true, false, _&&_, cond}
+-- What differs between sphere, cone and collision is selected, number by number. The law `in-stages` (proofs/stages/InStages.antt) says that with `root` between them they make the same plane.
+use mathlib.Core.Bool.{Bool, true, false, not, _&&_, cond}
 use lib.Ieee.{Float, neg}
 use Rattle.vectors.specs.declared.Vec3.{Vec3}
-use Rattle.vectors.specs.declared.Normalized.{Normalized}
-use Rattle.vectors.specs.declared.Normalized.the-variants.{Scaled, Zeros}
-use Rattle.vectors.specs.Number.{_⊖_, _⊗_, _⊘_, _<ᶠ_, _>ᶠ_, zero, one, finite}
-use Rattle.vectors.specs.Vec3.{zeroVec, _+ᵥ_, _-ᵥ_, _*ᵥ_, _/ᵥ_, dot, cross, lengthSquared, vectorOf, isZeros}
-use Rattle.vectors.specs.Root.{root}
+use Rattle.vectors.specs.Number.{_⊕_, _⊖_, _⊗_, _⊘_, _<ᶠ_, _>ᶠ_, zero, one, finite}
+use Rattle.vectors.specs.Vec3.{zeroVec, _+ᵥ_, _-ᵥ_, _*ᵥ_, _/ᵥ_, dot, cross, lengthSquared}
 use Rattle.solver.specs.declared.Plane.{Plane}
 use Rattle.solver.specs.Plane.{signedDistance}
-use Rattle.avoidance.specs.declared.Agent.{Agent}
 use Rattle.avoidance.specs.declared.NeighbourPlane.{NeighbourPlane}
 use Rattle.avoidance.specs.declared.neighbour.Relation.{Relation}
 use Rattle.avoidance.specs.declared.neighbour.Projection.{Projection}
-use Rattle.avoidance.specs.declared.stages.Obstacle.{Obstacle}
-use Rattle.avoidance.specs.declared.stages.Obstacle.the-variants.{Sphere, Cone, Collision}
 use Rattle.avoidance.specs.declared.stages.Approach.{Approach}
-use Rattle.avoidance.specs.Neighbour.{relationOf, share}
+use Rattle.avoidance.specs.declared.stages.Direction.{Direction}
 
 -- ---- the first stage
 
@@ -31,132 +25,63 @@ discriminant relation =
     let c = lengthSquared (relation .velocity) ⊖ raysSquared ⊘ legSquared in
     b ⊗ b ⊖ a ⊗ c
 
-unfoldable pub freeObstacle : Relation → Float → Obstacle
-freeObstacle relation horizon =
-    let center = relation .position /ᵥ horizon in
-    let fromCenter = relation .velocity -ᵥ center in
+-- before the tangent ring, as `projectedFree` asks
+unfoldable pub beforeRing : Relation → Vec3 → Bool
+beforeRing relation fromCenter =
     let along = dot fromCenter (relation .position) in
-    cond (along <ᶠ zero && along ⊗ along >ᶠ relation .«radius_sum» ⊗ relation .«radius_sum» ⊗ lengthSquared fromCenter)
-    (Sphere center)
-    (Cone (discriminant relation))
+    along <ᶠ zero && along ⊗ along >ᶠ relation .«radius_sum» ⊗ relation .«radius_sum» ⊗ lengthSquared fromCenter
 
-unfoldable pub obstacleOf : Relation → Float → Float → Obstacle
-obstacleOf relation horizon timeStep =
-    cond (lengthSquared (relation .position) >ᶠ relation .«radius_sum» ⊗ relation .«radius_sum»)
-    (freeObstacle relation horizon)
-    (Collision (relation .position /ᵥ timeStep))
-
-unfoldable pub approachOf : Agent → Agent → Float → Float → Approach
-approachOf agent neighbour horizon timeStep =
-    let relation = relationOf agent neighbour in
+-- of the relation to a neighbour, and of the two responsibilities
+unfoldable pub approachOf : Relation → Float → Float → Float → Float → Approach
+approachOf relation own other horizon timeStep =
+    let isFree = lengthSquared (relation .position) >ᶠ relation .«radius_sum» ⊗ relation .«radius_sum» in
+    let time = cond isFree horizon timeStep in
+    let center = relation .position /ᵥ time in
+    let isCone = cond isFree (not (beforeRing relation (relation .velocity -ᵥ center))) false in
     record {
-      relation = relation;
-      responsibility = neighbour .responsibility;
-      obstacle = obstacleOf relation horizon timeStep;
+      center = center;
+      radius = relation .«radius_sum» ⊘ time;
+      part = own ⊘ (own ⊕ other);
+      «is_free» = isFree;
+      «is_cone» = isCone;
+      number = cond isCone (discriminant relation) zero;
     }
-
--- rooted first; only the cone has such a number
-abbrev pub numberOf : Obstacle → Float
-numberOf (Sphere center) = zero
-numberOf (Cone number) = number
-numberOf (Collision center) = zero
-
-unfoldable pub firstNumber : Approach → Float
-firstNumber approach = numberOf (approach .obstacle)
-
-abbrev pub takesRoot : Obstacle → Bool
-takesRoot (Sphere center) = false
-takesRoot (Cone number) = true
-takesRoot (Collision center) = false
-
-unfoldable pub isCone : Approach → Bool
-isCone approach = takesRoot (approach .obstacle)
 
 -- ---- the second stage, from the root of that number
 
-unfoldable pub timeWith : Relation → Float → Float
-timeWith relation first =
-    let a = lengthSquared (relation .position) in
-    let b = dot (relation .position) (relation .velocity) in
-    (neg b ⊖ first) ⊘ a
-
--- of the normal; what is rooted next is its length squared
-abbrev pub directionTo : Relation → Obstacle → Float → Vec3
-directionTo relation (Sphere center) first = relation .velocity -ᵥ center
-directionTo relation (Cone number) first = relation .velocity +ᵥ relation .position *ᵥ timeWith relation first
-directionTo relation (Collision center) first = relation .velocity -ᵥ center
-
-unfoldable pub directionWith : Approach → Float → Vec3
-directionWith approach first = directionTo (approach .relation) (approach .obstacle) first
+unfoldable pub directionWith : Vec3 → Vec3 → Vec3 → Bool → Float → Direction
+directionWith position velocity center isCone first =
+    let t = (neg (dot position velocity) ⊖ first) ⊘ lengthSquared position in
+    let vector = cond isCone (velocity +ᵥ position *ᵥ t) (velocity -ᵥ center) in
+    record { vector = vector; square = lengthSquared vector }
 
 -- ---- the third stage, from the direction and its length
 
-unfoldable pub normalizedWith : Vec3 → Float → Normalized
-normalizedWith direction length =
-    let s = one ⊘ length in
-    cond (finite s && s >ᶠ zero) (Scaled (direction *ᵥ s)) Zeros
+-- of a reciprocal length
+unfoldable pub usable : Float → Bool
+usable scale = finite scale && scale >ᶠ zero
 
-abbrev pub vectorOr : Normalized → Vec3 → Vec3
-vectorOr (Scaled v) fallback = v
-vectorOr Zeros fallback = fallback
-
-unfoldable pub onSphereWith : Relation → Float → Vec3 → Vec3 → Float → Projection
-onSphereWith relation horizon center direction length =
-    let radius = relation .«radius_sum» ⊘ horizon in
-    let normalized = normalizedWith direction length in
-    let normal = vectorOf normalized in
-    record {
-      normal = normal;
-      value = normal *ᵥ radius +ᵥ center;
-      inside = lengthSquared direction <ᶠ radius ⊗ radius;
-      unseen = isZeros normalized;
-    }
-
-unfoldable pub onConeWith : Relation → Vec3 → Float → Projection
-onConeWith relation direction length =
-    let normalized = normalizedWith direction length in
-    let normal = vectorOf normalized in
+unfoldable pub projectedWith : Vec3 → Approach → Direction → Float → Vec3 → Projection
+projectedWith velocity approach direction length fallback =
+    let scale = one ⊘ length in
+    let normal = cond (usable scale) (direction .vector *ᵥ scale) (cond (approach .«is_free») zeroVec fallback) in
     let plane : Plane = record { point = zeroVec; normal = normal } in
-    let distance = signedDistance plane (relation .velocity) in
+    let distance = signedDistance plane velocity in
     record {
       normal = normal;
-      value = relation .velocity -ᵥ normal *ᵥ distance;
-      inside = distance <ᶠ zero;
-      unseen = isZeros normalized;
+      value = cond (approach .«is_cone») (velocity -ᵥ normal *ᵥ distance) (normal *ᵥ approach .radius +ᵥ approach .center);
+      inside = cond (approach .«is_free») (cond (approach .«is_cone») (distance <ᶠ zero) (direction .square <ᶠ approach .radius ⊗ approach .radius)) true;
+      unseen = cond (usable scale) false (approach .«is_free»);
     }
 
-unfoldable pub onCollisionWith : Relation → Float → Vec3 → Vec3 → Float → Vec3 → Projection
-onCollisionWith relation timeStep center direction length fallback =
-    let radius = relation .«radius_sum» ⊘ timeStep in
-    let normal = vectorOr (normalizedWith direction length) fallback in
-    record {
-      normal = normal;
-      value = normal *ᵥ radius +ᵥ center;
-      inside = true;
-      unseen = false;
-    }
-
-abbrev pub projectedTo : Relation → Obstacle → Vec3 → Float → Float → Float → Vec3 → Projection
-projectedTo relation (Sphere center) direction length horizon timeStep fallback = onSphereWith relation horizon center direction length
-projectedTo relation (Cone number) direction length horizon timeStep fallback = onConeWith relation direction length
-projectedTo relation (Collision center) direction length horizon timeStep fallback = onCollisionWith relation timeStep center direction length fallback
-
-unfoldable pub projectedWith : Approach → Vec3 → Float → Float → Float → Vec3 → Projection
-projectedWith approach direction length horizon timeStep fallback = projectedTo (approach .relation) (approach .obstacle) direction length horizon timeStep fallback
-
-unfoldable pub planeWith : Agent → Approach → Vec3 → Float → Float → Float → Vec3 → NeighbourPlane
-planeWith agent approach direction length horizon timeStep fallback =
-    let projection = projectedWith approach direction length horizon timeStep fallback in
-    let u = projection .value -ᵥ approach .relation .velocity in
+unfoldable pub planeWith : Vec3 → Vec3 → Approach → Direction → Float → Vec3 → NeighbourPlane
+planeWith ownVelocity velocity approach direction length fallback =
+    let projection = projectedWith velocity approach direction length fallback in
+    let u = projection .value -ᵥ velocity in
     record {
       plane = record {
-        point = agent .velocity +ᵥ u *ᵥ share (agent .responsibility) (approach .responsibility) (projection .inside);
+        point = ownVelocity +ᵥ u *ᵥ cond (projection .inside) (approach .part) one;
         normal = projection .normal;
       };
       unseen = projection .unseen;
     }
-
--- ---- the stages with the roots between them
-
-unfoldable pub directionOf : Approach → Vec3
-directionOf approach = directionWith approach (root (firstNumber approach))

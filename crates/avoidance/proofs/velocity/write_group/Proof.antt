@@ -1,45 +1,49 @@
 -- One neighbour's plane after another takes the writing further, and one that is not finite ends it.
 use mathlib.Core.Path.{_≡_}
-use Prim.Native.Nat.{_+_, _-_, _*_, _≤_}
+use Prim.Native.Nat.{_+_, _-_, _≤_}
 use native.Mathlib.Nat.{add-zero, add-assoc}
 use native.Mathlib.Omega.{arith}
 use borrow.Author.Needs.{needs}
 use denote.Ref.{now}
-use lib.ListN.{drop}
+use Rattle.avoidance.specs.declared.Request.{Request}
 use Rattle.avoidance.specs.declared.velocity.Made.the-variants.{Finite}
-use Rattle.avoidance.specs.Velocity.{planeOf}
+use Rattle.avoidance.specs.parts.Groups.{Standing}
 use Rattle.avoidance.specs.parts.Velocity.{Passed}
-use Rattle.avoidance.proofs.groups.LanePlane.{lane-plane}
 use Rattle.avoidance.proofs.velocity.Passing.{passed-none, passed-on, passed-one, passed-stopped}
 use Rattle.avoidance.proofs.velocity.write_group.Statement.{statement}
 use Rattle.avoidance.proofs.velocity.write_group.Tie as tie
 
 abbrev Inv-loop : tie.InvT-loop
-Inv-loop scratch₀ request neighbours start size approaches directions lengths unseen₀ lane₀ scratch unseen lane = (lane ≤ size) × Passed request neighbours start (start + lane) unseen₀ scratch₀ scratch (Finite unseen)
+Inv-loop scratch₀ neighbours start size planes unseen₀ lane₀ scratch unseen lane = (lane ≤ size) × ((request : Request) → Standing request neighbours start size planes → Passed request neighbours start (start + lane) unseen₀ scratch₀ scratch (Finite unseen))
 
 abbrev μ-loop : tie.MeasureT-loop
-μ-loop scratch₀ request neighbours start size approaches directions lengths unseen₀ lane₀ scratch unseen lane = size - lane
+μ-loop scratch₀ neighbours start size planes unseen₀ lane₀ scratch unseen lane = size - lane
 
--- what one write comes to, from the start of the group on
+-- what one write comes to, from the start of the group on, for any request whose planes are those of the group
+further-by : (c : tie.After-slice-known3 Inv-loop μ-loop)
+    → let called = c .before .before in
+    let at = called .before .before .before .before .before .before .before .before .before .before in
+    let planed = at .before in
+    let start = planed .before .before .before .before in
+    (request : Request) → Standing request (now (start .args .neighbours)) (start .args .start) (start .args .size) (planed .planes-of .result)
+    → Passed request (now (start .args .neighbours)) (start .args .start) (start .args .start + at .loop .lane + 1) (start .args .unseen) (now (start .args .scratch)) (called .write-made2 .last .0) (called .write-made2 .result)
+further-by c request stands =
+    let called = c .before .before in
+    let tested = called .before .before .before .before .before .before .before .before .before in
+    let at = tested .before in
+    let start = at .before .before .before .before .before in
+    let neighbours = now (start .args .neighbours) in
+    let before = at .loop .inv .1 request stands in
+    passed-on request neighbours before (passed-one request neighbours (start .args .start + at .loop .lane) _ _ _ _ _ (omega (arith, start .pre, before .same-length)) (stands (at .loop .lane) (tested .loop-test .taken)) (called .write-made2 .ensures))
+
 one-further : (c : tie.After-slice-known3 Inv-loop μ-loop)
     → let called = c .before .before in
-    let at = called .before .before .before .before .before .before in
-    let start = at .before .before .before .before .before .before .before in
+    let at = called .before .before .before .before .before .before .before .before .before .before in
+    let start = at .before .before .before .before .before in
     Passed (start .args .request) (now (start .args .neighbours)) (start .args .start) (start .args .start + at .loop .lane + 1) (start .args .unseen) (now (start .args .scratch)) (called .write-made2 .last .0) (called .write-made2 .result)
 one-further c =
-    let called = c .before .before in
-    let made = called .before .before in
-    let at = made .before .before .before .before in
-    let measured = at .before in
-    let turned = measured .before in
-    let held = turned .before in
-    let start = held .before .before .before .before in
-    let request = start .args .request in
-    let neighbours = now (start .args .neighbours) in
-    let is : made .plane-with .result ≡ planeOf request (drop (8 * (start .args .start + at .loop .lane)) neighbours) =
-    rw (made .plane-with .ensures, measured .lengths .ensures, turned .directions .ensures)
-    (lane-plane request neighbours (start .args .start) (start .args .size) (at .loop .lane) (held .approaches .result) _ _ _ (held .approaches .ok .1 .0 .1) (start .pre .2) (omega (arith, made .before .before .before .loop-test .taken)) (held .approaches .ensures)) in
-    passed-on request neighbours (at .loop .inv .1) (passed-one request neighbours (start .args .start + at .loop .lane) _ _ _ _ _ (omega (arith, start .pre, at .loop .inv .1 .same-length)) is (called .write-made2 .ensures))
+    let planed = c .before .before .before .before .before .before .before .before .before .before .before .before .before in
+    further-by c (planed .before .before .before .before .args .request) (planed .planes-of .ensures)
 
 plane-of-requires : tie.Need-plane-of-requires Inv-loop μ-loop
 plane-of-requires c κs = search needs
@@ -57,40 +61,52 @@ returns c =
     let one : start .args .size ≡ 1 = c .before .before .before .before .before .if1 .taken in
     rw one (passed-one (start .args .request) (now (start .args .neighbours)) (start .args .start) _ _ _ _ _ (omega (arith, start .pre)) (called .before .before .plane-of .ensures) (called .write-made .ensures))
 
-approaches-requires : tie.Need-approaches-requires Inv-loop μ-loop
-approaches-requires c κs = search needs
-
-directions-requires : tie.Need-directions-requires Inv-loop μ-loop
-directions-requires c κs = search needs
-
-lengths-requires : tie.Need-lengths-requires Inv-loop μ-loop
-lengths-requires c κs = search needs
+planes-of-requires : tie.Need-planes-of-requires Inv-loop μ-loop
+planes-of-requires c κs = search needs
 
 loop-holds : tie.Need-loop-holds Inv-loop μ-loop
 loop-holds c =
-    let start = c .before .before .before .before .before .before in
-    (omega arith, rw (add-zero (start .args .start)) (passed-none (start .args .request) (now (start .args .neighbours)) (start .args .start) (start .args .unseen) (now (start .args .scratch))))
+    let start = c .before .before .before .before in
+    (omega arith, λ request stands. rw (add-zero (start .args .start)) (passed-none request (now (start .args .neighbours)) (start .args .start) (start .args .unseen) (now (start .args .scratch))))
 
-mul-plane-with : tie.Need-mul-plane-with Inv-loop μ-loop
-mul-plane-with c = search needs
+mul-t20 : tie.Need-mul-t20 Inv-loop μ-loop
+mul-t20 c = search needs
 
-array-copy-out-plane-with : tie.Need-array-copy-out-plane-with Inv-loop μ-loop
-array-copy-out-plane-with c = search needs
+element-copy-out-t23 : tie.Need-element-copy-out-t23 Inv-loop μ-loop
+element-copy-out-t23 c = search needs
 
-mul-plane-with-2 : tie.Need-mul-plane-with-2 Inv-loop μ-loop
-mul-plane-with-2 c = search needs
+mul-t24 : tie.Need-mul-t24 Inv-loop μ-loop
+mul-t24 c = search needs
 
-array-copy-out-plane-with-2 : tie.Need-array-copy-out-plane-with-2 Inv-loop μ-loop
-array-copy-out-plane-with-2 c = search needs
+element-copy-out-t27 : tie.Need-element-copy-out-t27 Inv-loop μ-loop
+element-copy-out-t27 c = search needs
 
-mul-plane-with-3 : tie.Need-mul-plane-with-3 Inv-loop μ-loop
-mul-plane-with-3 c = search needs
+mul-t28 : tie.Need-mul-t28 Inv-loop μ-loop
+mul-t28 c = search needs
 
-array-read-plane-with : tie.Need-array-read-plane-with Inv-loop μ-loop
-array-read-plane-with c = search needs
+element-copy-out-t31 : tie.Need-element-copy-out-t31 Inv-loop μ-loop
+element-copy-out-t31 c = search needs
 
-plane-with-requires : tie.Need-plane-with-requires Inv-loop μ-loop
-plane-with-requires c κs = search needs
+mul-t33 : tie.Need-mul-t33 Inv-loop μ-loop
+mul-t33 c = search needs
+
+element-copy-out-t36 : tie.Need-element-copy-out-t36 Inv-loop μ-loop
+element-copy-out-t36 c = search needs
+
+mul-t37 : tie.Need-mul-t37 Inv-loop μ-loop
+mul-t37 c = search needs
+
+element-copy-out-t40 : tie.Need-element-copy-out-t40 Inv-loop μ-loop
+element-copy-out-t40 c = search needs
+
+mul-t41 : tie.Need-mul-t41 Inv-loop μ-loop
+mul-t41 c = search needs
+
+element-copy-out-t44 : tie.Need-element-copy-out-t44 Inv-loop μ-loop
+element-copy-out-t44 c = search needs
+
+element-copy-out-t19 : tie.Need-element-copy-out-t19 Inv-loop μ-loop
+element-copy-out-t19 c = search needs
 
 add-write-made : tie.Need-add-write-made Inv-loop μ-loop
 add-write-made c = search needs
@@ -105,14 +121,15 @@ enum-known-neighbour : tie.Need-enum-known-neighbour Inv-loop μ-loop
 enum-known-neighbour c = search needs
 
 same-length-2 : tie.Need-same-length-2 Inv-loop μ-loop
-same-length-2 c = one-further (c .before .before .before) .same-length
+same-length-2 c =
+    one-further (c .before .before .before) .same-length
 
 returns-2 : tie.Need-returns-2 Inv-loop μ-loop
 returns-2 c =
     let further = c .before .before .before in
-    let tested = further .before .before .before .before .before .before .before in
+    let tested = further .before .before .before .before .before .before .before .before .before .before .before in
     let at = tested .before in
-    let start = at .before .before .before .before .before .before .before in
+    let start = at .before .before .before .before .before in
     let left = start .args .size - (at .loop .lane + 1) in
     let all : start .args .start + at .loop .lane + 1 + left ≡ start .args .start + start .args .size = omega (arith, tested .loop-test .taken) in
     rw all at (passed-stopped (start .args .request) (now (start .args .neighbours)) left (rw (c .before .neighbour .given .1) at (one-further further)))
@@ -126,19 +143,23 @@ loop-less c = search needs
 loop-again : tie.Need-loop-again Inv-loop μ-loop
 loop-again c =
     let further = c .before .before .before in
-    let tested = further .before .before .before .before .before .before .before in
+    let tested = further .before .before .before .before .before .before .before .before .before .before .before in
     let at = tested .before in
-    let start = at .before .before .before .before .before .before .before in
-    (omega (arith, tested .loop-test .taken), rw (c .before .found .given .1, add-assoc (start .args .start) (at .loop .lane) 1) at (one-further further))
+    let start = at .before .before .before .before .before in
+    (omega (arith, tested .loop-test .taken), λ request stands. rw (c .before .found .given .1, add-assoc (start .args .start) (at .loop .lane) 1) at (further-by further request stands))
 
 same-length-3 : tie.Need-same-length-3 Inv-loop μ-loop
-same-length-3 c = c .before .loop .inv .1 .same-length
+same-length-3 c =
+    let planed = c .before .before in
+    c .before .loop .inv .1 (planed .before .before .before .before .args .request) (planed .planes-of .ensures) .same-length
 
 returns-3 : tie.Need-returns-3 Inv-loop μ-loop
 returns-3 c =
     let at = c .before in
-    let all : at .loop .lane ≡ at .before .before .before .before .before .before .before .args .size = omega arith in
-    rw all at (at .loop .inv .1)
+    let planed = at .before in
+    let start = planed .before .before .before .before in
+    let all : at .loop .lane ≡ start .args .size = omega arith in
+    rw all at (at .loop .inv .1 (start .args .request) (planed .planes-of .ensures))
 
 pub write-group-spec : {M : Type 1} → statement M
 write-group-spec =
@@ -150,17 +171,21 @@ write-group-spec =
     write-made-requires
     same-length
     returns
-    approaches-requires
-    directions-requires
-    lengths-requires
+    planes-of-requires
     loop-holds
-    mul-plane-with
-    array-copy-out-plane-with
-    mul-plane-with-2
-    array-copy-out-plane-with-2
-    mul-plane-with-3
-    array-read-plane-with
-    plane-with-requires
+    mul-t20
+    element-copy-out-t23
+    mul-t24
+    element-copy-out-t27
+    mul-t28
+    element-copy-out-t31
+    mul-t33
+    element-copy-out-t36
+    mul-t37
+    element-copy-out-t40
+    mul-t41
+    element-copy-out-t44
+    element-copy-out-t19
     add-write-made
     write-made-requires-2
     enum-known-found
