@@ -7,16 +7,15 @@
 --     reader-saved: a reader over the bytes saved hands out the standing records
 use mathlib.Core.Path.{_≡_, refl, sym, ap, _∙_, subst}
 use mathlib.Core.Bool.{Bool, true, false, cond}
-use mathlib.Core.List.{List, _++_}
+use mathlib.Core.List.{List}
 use Prim.Native.Nat.{ℕ, _≤_, _<_}
 use native.Mathlib.Omega.{arith}
 use lib.Dec.{ltb}
 use lib.ListN.{length, getD, take, drop}
 use lib.Seq.{take-at, drop-at}
 use borrow.Author.Tests.{ltb-false}
-use Rattle.refusals.specs.declared.Refusal.the-variants.{ShortBuffer}
 use Rattle.refusals.specs.declared.Verdict.the-variants.{Passed}
-use Rattle.refusals.specs.Verdict.{_⊳_, refusedIf}
+use Rattle.refusals.specs.Verdict.{_⊳_}
 use Rattle.records.specs.declared.Record.{Record}
 use Rattle.records.specs.Record.{blank}
 use Rattle.records.specs.File.{fileOf, recordsOf, fileVerdict}
@@ -30,7 +29,7 @@ use Rattle.fleet.specs.Answer.{number}
 use Rattle.fleet.specs.Table.{agents, settled, shut, answerTo}
 use Rattle.fleet.specs.Load.{loadVerdict, loaded, loadCall}
 use Rattle.fleet.specs.Save.{savedBytes, neededBytes, shortBuffer, saveVerdict, saveCall, bufferAfter}
-use Rattle.fleet.specs.Calls.{step}
+use Rattle.fleet.specs.Calls.{Call, step}
 use Rattle.fleet.specs.Sound.{Sound}
 use Rattle.fleet.specs.Claims.{WholeRecords, SavedBuffer, SavedLoads, LoadedSaves, SavedStanding, ReaderSaved}
 use Rattle.fleet.proofs.LoadRead.{load-agents, load-passed}
@@ -53,20 +52,23 @@ saved-length fleet whole = whole-length (agents fleet) whole
 
 pub saved-buffer : SavedBuffer
 unfolding step saveCall saveVerdict answerTo bufferAfter
-saved-buffer fleet buffer whole = go (shortBuffer fleet (length buffer))
+saved-buffer fleet buffer whole = go (shortBuffer fleet (length buffer)) refl
   where
-    saved : Bool → ℕ
-    saved short = number (answerTo (refusedIf short (ShortBuffer (neededBytes fleet))))
+    saved : ℕ
+    saved = number (step fleet (Call.save buffer) .answer)
 
-    left : Bool → List ℕ
-    left short = cond short buffer (savedBytes fleet ++ drop (neededBytes fleet) buffer)
+    left : List ℕ
+    left = bufferAfter fleet buffer
 
-    go : (short : Bool) → (saved short ≡ 16 → left short ≡ buffer) × (saved short ≡ 0 → (take (neededBytes fleet) (left short) ≡ savedBytes fleet) × (drop (neededBytes fleet) (left short) ≡ drop (neededBytes fleet) buffer))
-    go true = (λ e. refl, λ e. absurd (omega (arith, e)))
-    go false =
+    go : (short : Bool) → shortBuffer fleet (length buffer) ≡ short
+        → (saved ≡ 16 → left ≡ buffer) × (saved ≡ 0 → (take (neededBytes fleet) left ≡ savedBytes fleet) × (drop (neededBytes fleet) left ≡ drop (neededBytes fleet) buffer))
+    go true is = (λ e. rw is, λ e. absurd (omega (arith, rw is at e)))
+    go false is =
         let past = drop (neededBytes fleet) buffer in
-        let long = saved-length fleet whole in
-        (λ e. absurd (omega (arith, e)), λ e. (take-at (savedBytes fleet) past (neededBytes fleet) long, drop-at (savedBytes fleet) past (neededBytes fleet) long))
+        let long = saved-length fleet whole in (
+          λ e. absurd (omega (arith, rw is at e)),
+          λ e. (rw is (take-at (savedBytes fleet) past (neededBytes fleet) long), rw is (drop-at (savedBytes fleet) past (neededBytes fleet) long)),
+        )
 
 -- ---- load and a reader take the records back
 
