@@ -5,3 +5,4 @@ pub mod FitCalls
 pub mod Places
 pub mod Unseen
 pub mod CallLaws
+pub mod FiniteByZero
