@@ -1,11 +1,11 @@
 // Document 01, module 7: the velocity call's checks 1, 17, and 2 to 5. The definitions are in `specs/Checks.antt`.
 ghost use mathlib.Core.Path.{_≡_};
 ghost use mathlib.Core.Bool.{true, false};
-ghost use Prim.Native.Nat.{_≤_};
+ghost use Prim.Native.Nat.{ℕ, _≤_};
 ghost use Rattle.vectors.specs.Number.{_<ᶠ_, zero};
 ghost use Rattle.refusals.specs.Conditions.{firstBad};
 ghost use Rattle.avoidance.specs.Checks.{outside, callKind, badNumber, firstOf, badFallback, checks};
-ghost use Rattle.avoidance.specs.Request.{perRequest};
+ghost use Rattle.avoidance.specs.Request.{perRequest, requestNumbers};
 use super::AGENT_NUMBERS;
 use super::Asked;
 use super::FALLBACK_PLACE;
@@ -86,10 +86,9 @@ fn first_bad(asked: Asked, start: usize, numbers: &[f32]) -> Found
     Found::Nothing
 }
 
-// Whether every number of the neighbours is finite. With no way out before the end, the loop looks at
-// several at a time.
+// Whether every number is finite. With no way out before the end, the loop looks at several at a time.
 fn all_finite(numbers: &[f32]) -> bool
-    ensures { λ r. ⌜ (r ≡ true → firstBad (badNumber Asked.Finite) perRequest (now (numbers .entry)) ≡ Found.Nothing) ⌝ }
+    ensures { λ r. ⌜ ((start : ℕ) → r ≡ true → firstBad (badNumber Asked.Finite) start (now (numbers .entry)) ≡ Found.Nothing) ⌝ }
 {
     let mut all = true;
     let mut index = 0;
@@ -145,11 +144,51 @@ fn none_bad(asked: Asked, neighbours: &[f32]) -> bool
     }
 }
 
+// Whether every number of the request is in its range. Only five can be out of it.
+fn own_in_range(request: Request) -> bool
+    ensures { λ r. ⌜ (r ≡ true → firstBad (badNumber Asked.InRange) 0 (requestNumbers request) ≡ Found.Nothing) ⌝ }
+{
+    if is_negative(request.agent.radius, request.agent.responsibility) {
+        return false;
+    }
+    if request.max_speed < 0.0 {
+        return false;
+    }
+    if request.time_step > 0.0 {
+        request.horizon > 0.0
+    } else {
+        false
+    }
+}
+
+// Whether it is seen at once that none of the request's numbers is bad.
+fn none_own_bad(asked: Asked, request: Request) -> bool
+    ensures { λ r. ⌜ (r ≡ true → firstBad (badNumber asked) 0 (requestNumbers request) ≡ Found.Nothing) ⌝ }
+{
+    match asked {
+        Asked::Finite => {
+            let numbers = request.numbers();
+            all_finite(&numbers)
+        }
+        Asked::InRange => own_in_range(request),
+    }
+}
+
+// The lowest place of a bad number of the request.
+fn first_own(asked: Asked, request: Request) -> Found
+    ensures { λ r. ⌜ r ≡ firstBad (badNumber asked) 0 (requestNumbers request) ⌝ }
+{
+    if none_own_bad(asked, request) {
+        return Found::Nothing;
+    }
+    let numbers = request.numbers();
+    first_bad(asked, 0, &numbers)
+}
+
 fn first_of(asked: Asked, request: Request, neighbours: &[f32]) -> Found
     ensures { λ r. ⌜ r ≡ firstOf asked request (now (neighbours .entry)) ⌝ }
 {
-    let numbers = request.numbers();
-    let own = first_bad(asked, 0, &numbers);
+    let own = first_own(asked, request);
     let Found::Nothing = own else {
         return own;
     };

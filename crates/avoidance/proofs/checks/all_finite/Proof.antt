@@ -2,7 +2,7 @@
 use mathlib.Core.Path.{_≡_, refl, sym, ap, _∙_}
 use mathlib.Core.Bool.{true, not, false≢true}
 use mathlib.Core.Logic.{⊎-elim}
-use Prim.Native.Nat.{_+_, _-_, _≤_}
+use Prim.Native.Nat.{ℕ, _+_, _-_, _≤_}
 use native.Mathlib.Omega.{arith}
 use lib.Ieee.{nan}
 use lib.ListN.{length, drop}
@@ -15,13 +15,13 @@ use Rattle.avoidance.proofs.checks.all_finite.Statement.{statement}
 use Rattle.avoidance.proofs.checks.all_finite.Tie as tie
 
 abbrev Inv-loop : tie.InvT-loop
-Inv-loop numbers all₀ index₀ all index = (index ≤ length numbers) × (all ≡ true → firstBad (badNumber Finite) (17 + index) (drop index numbers) ≡ firstBad (badNumber Finite) 17 numbers)
+Inv-loop numbers all₀ index₀ all index = (index ≤ length numbers) × ((start : ℕ) → all ≡ true → firstBad (badNumber Finite) (start + index) (drop index numbers) ≡ firstBad (badNumber Finite) start numbers)
 
 abbrev μ-loop : tie.MeasureT-loop
 μ-loop numbers all₀ index₀ all index = length numbers - index
 
 loop-holds : tie.Need-loop-holds Inv-loop μ-loop
-loop-holds c = (omega arith, λ all. refl)
+loop-holds c = (omega arith, λ start all. ap (λ (from : ℕ). firstBad (badNumber Finite) from _) (omega arith))
 
 mul-is-finite : tie.Need-mul-is-finite Inv-loop μ-loop
 mul-is-finite c = search needs
@@ -44,13 +44,13 @@ loop-again c =
     let in-loop = c .before .before .before in (
       omega arith,
       ⊎-elim
-          (λ w all. absurd (false≢true (sym (w .1) ∙ all)))
-          (λ w all. sym (bad-later (badNumber Finite) 17 _ _ nan (in-loop .loop-test .taken) (sym (ap not (c .before .is-finite .ensures)) ∙ w .0 .left)) ∙ in-loop .before .loop .inv .1 (sym (w .1) ∙ all))
+          (λ w start all. absurd (false≢true (sym (w .1) ∙ all)))
+          (λ w start all. sym (bad-later (badNumber Finite) start _ _ nan (in-loop .loop-test .taken) (sym (ap not (c .before .is-finite .ensures)) ∙ w .0 .left)) ∙ in-loop .before .loop .inv .1 start (sym (w .1) ∙ all))
           (c .if1 .came),
     )
 
 returns : tie.Need-returns Inv-loop μ-loop
-returns c = λ all. sym (c .before .loop .inv .1 all) ∙ bad-past (badNumber Finite) _ _ _ (c .loop-test .left)
+returns c = λ start all. sym (c .before .loop .inv .1 start all) ∙ bad-past (badNumber Finite) _ _ _ (c .loop-test .left)
 
 pub all-finite-spec : {M : Type 1} → statement M
 all-finite-spec =

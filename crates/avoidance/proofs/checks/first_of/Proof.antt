@@ -18,22 +18,16 @@ whole : (asked : Asked) (request : Request) (neighbours : List Float) → firstO
 unfolding firstOf requestNumbers
 whole asked request neighbours = bad-append (badNumber asked) 0 (requestNumbers request) neighbours
 
-in-parts : (c : tie.After-first-bad)
-    → let start = c .before .before .before .before in
-    firstOf (start .args .asked) (start .args .request) (now (start .args .neighbours)) ≡ orElse (c .first-bad .result) (firstBad (badNumber (start .args .asked)) 17 (now (start .args .neighbours)))
+in-parts : (c : tie.After-first-own)
+    → let start = c .before .before in
+    firstOf (start .args .asked) (start .args .request) (now (start .args .neighbours)) ≡ orElse (c .first-own .result) (firstBad (badNumber (start .args .asked)) 17 (now (start .args .neighbours)))
 in-parts c =
-    let start = c .before .before .before .before in
+    let start = c .before .before in
     whole (start .args .asked) (start .args .request) (now (start .args .neighbours))
-    ∙ ap (λ (f : Found). orElse f (firstBad (badNumber (start .args .asked)) 17 (now (start .args .neighbours)))) (sym (c .first-bad .ensures ∙ ap (firstBad (badNumber (start .args .asked)) 0) (c .before .before .numbers .ensures)))
+    ∙ ap (λ (f : Found). orElse f (firstBad (badNumber (start .args .asked)) 17 (now (start .args .neighbours)))) (sym (c .first-own .ensures))
 
-numbers-requires : tie.Need-numbers-requires
-numbers-requires c κs = search needs
-
-slice-aggregate-first-bad : tie.Need-slice-aggregate-first-bad
-slice-aggregate-first-bad c = search needs
-
-first-bad-requires : tie.Need-first-bad-requires
-first-bad-requires c κs = search needs
+first-own-requires : tie.Need-first-own-requires
+first-own-requires c κs = search needs
 
 enum-told : tie.Need-enum-told
 enum-told c = search needs
@@ -52,25 +46,23 @@ returns-2 c =
     let told = c .before .before in
     sym (in-parts (told .before .before) ∙ rw (told .enum-told .given .1) (c .before .none-bad .ensures (c .if1 .taken)))
 
-first-bad-requires-2 : tie.Need-first-bad-requires-2
-first-bad-requires-2 c κs = search needs
+first-bad-requires : tie.Need-first-bad-requires
+first-bad-requires c κs = search needs
 
 returns-3 : tie.Need-returns-3
 returns-3 c =
     let told = c .before .before .before in
-    c .first-bad2 .ensures ∙ sym (in-parts (told .before .before) ∙ rw (told .enum-told .given .1))
+    c .first-bad .ensures ∙ sym (in-parts (told .before .before) ∙ rw (told .enum-told .given .1))
 
 pub first-of-spec : {M : Type 1} → statement M
 first-of-spec =
     tie.close
     (tie.spec
-    numbers-requires
-    slice-aggregate-first-bad
-    first-bad-requires
+    first-own-requires
     enum-told
     enum-told-2
     returns
     none-bad-requires
     returns-2
-    first-bad-requires-2
+    first-bad-requires
     returns-3)

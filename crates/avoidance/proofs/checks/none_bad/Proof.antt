@@ -16,7 +16,7 @@ all-in-range-requires : tie.Need-all-in-range-requires
 all-in-range-requires c κs = search needs
 
 returns : tie.Need-returns
-returns c = λ all. rw (c .before .enum-told .given .1) (c .all-finite .ensures all)
+returns c = λ all. rw (c .before .enum-told .given .1) (c .all-finite .ensures 17 all)
 
 returns-2 : tie.Need-returns-2
 returns-2 c = λ all. rw (c .before .enum-told2 .given .1) (c .all-in-range .ensures all)
