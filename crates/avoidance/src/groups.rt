@@ -4,15 +4,12 @@
 ghost use mathlib.Core.Path.{_≡_};
 ghost use mathlib.Core.Bool.{true};
 ghost use mathlib.Core.List.{map};
-ghost use lib.ListN.{drop};
-ghost use Prim.Native.Nat.{_+_, _*_, _≤_, _<_};
+ghost use Prim.Native.Nat.{_+_, _≤_, _<_};
 ghost use Rattle.vectors.specs.Root.{root};
-ghost use Rattle.avoidance.specs.Lent.{perAgent, agentCount, agentAt};
+ghost use Rattle.avoidance.specs.Lent.{agentCount};
 ghost use Rattle.avoidance.specs.parts.Groups.{Related, Approached, Directed, Planed, Standing};
-use super::AGENT_NUMBERS;
-use super::Agent;
 use super::Request;
-use super::lent::agent_at;
+use super::lent::neighbour_at;
 use super::neighbour::Relation;
 use super::stages::Approach;
 use super::stages::Direction;
@@ -65,13 +62,6 @@ pub struct Planes {
     pub normal_y: [f32; 8],
     pub normal_z: [f32; 8],
     pub unseen: [bool; 8],
-}
-
-fn neighbour_at(neighbours: &[f32], index: usize) -> Agent
-    requires { ⌜ index < agentCount (now neighbours) ⌝ }
-    ensures { λ r. ⌜ r ≡ agentAt (drop (perAgent * index) (now (neighbours .entry))) ⌝ }
-{
-    agent_at(neighbours, AGENT_NUMBERS * index)
 }
 
 // The lane whose neighbour stands in `lane`: the lanes that are left in a group of `size` are filled up with the first.

@@ -1,8 +1,9 @@
 // Vectors and agents lent as numbers. The definitions are in `specs/Lent.antt`.
 ghost use mathlib.Core.Path.{_≡_};
-ghost use Prim.Native.Nat.{_+_, _≤_};
+ghost use Prim.Native.Nat.{_+_, _*_, _≤_, _<_};
 ghost use lib.ListN.{length, drop};
-ghost use Rattle.avoidance.specs.Lent.{perAgent, vectorAt, agentAt};
+ghost use Rattle.avoidance.specs.Lent.{perAgent, agentCount, vectorAt, agentAt};
+use super::AGENT_NUMBERS;
 use super::Agent;
 use super::RADIUS_PLACE;
 use super::RESPONSIBILITY_PLACE;
@@ -32,4 +33,12 @@ pub(crate) fn agent_at(numbers: &[f32], at: usize) -> Agent
         radius: numbers[at + RADIUS_PLACE],
         responsibility: numbers[at + RESPONSIBILITY_PLACE],
     }
+}
+
+// The agent at `index` among neighbours lent as numbers.
+pub(crate) fn neighbour_at(neighbours: &[f32], index: usize) -> Agent
+    requires { ⌜ index < agentCount (now neighbours) ⌝ }
+    ensures { λ r. ⌜ r ≡ agentAt (drop (perAgent * index) (now (neighbours .entry))) ⌝ }
+{
+    agent_at(neighbours, AGENT_NUMBERS * index)
 }

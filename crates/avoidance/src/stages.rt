@@ -3,7 +3,7 @@
 // neighbour, and what it needs is selected: a stage has no way out, so the compiler makes vector code of eight. The
 // definitions are in `specs/parts/Stages.antt`.
 ghost use mathlib.Core.Path.{_≡_};
-ghost use mathlib.Core.Bool.{_&&_, cond};
+ghost use mathlib.Core.Bool.{cond};
 ghost use Rattle.avoidance.specs.Neighbour.{relationOf};
 ghost use Rattle.avoidance.specs.parts.Stages.{discriminant, beforeRing, approachOf, directionWith, usable, projectedWith, planeWith};
 use super::Agent;

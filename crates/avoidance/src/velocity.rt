@@ -15,7 +15,7 @@ use super::Request;
 use super::checks::checks;
 use super::groups::LANES;
 use super::groups::planes_of;
-use super::lent::agent_at;
+use super::lent::neighbour_at;
 use super::neighbour::plane_for;
 use refusals::Found;
 use refusals::Refusal;
@@ -50,7 +50,7 @@ fn plane_of(request: Request, neighbours: &[f32], index: usize) -> NeighbourPlan
     requires { ⌜ index < agentCount (now neighbours) ⌝ }
     ensures { λ r. ⌜ r ≡ planeOf request (drop (perAgent * index) (now (neighbours .entry))) ⌝ }
 {
-    let neighbour = agent_at(neighbours, AGENT_NUMBERS * index);
+    let neighbour = neighbour_at(neighbours, index);
     plane_for(
         request.agent,
         neighbour,

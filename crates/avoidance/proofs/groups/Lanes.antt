@@ -1,6 +1,6 @@
 -- Lanes that a loop fills one by one.
-use mathlib.Core.Path.{_≡_, refl, _∙_}
-use mathlib.Core.Bool.{Bool, false}
+use mathlib.Core.Path.{_≡_, _∙_}
+use mathlib.Core.Bool.{false}
 use mathlib.Core.List.{List}
 use mathlib.Core.Logic.{⊎-elim}
 use Prim.Native.Nat.{ℕ, _+_, _≤_, _<_}
@@ -54,12 +54,12 @@ set-relation lanes lane new other = record {
   «velocity_y» = set (lanes .«velocity_y») lane (new .velocity .y);
   «velocity_z» = set (lanes .«velocity_z») lane (new .velocity .z);
   «radius_sum» = set (lanes .«radius_sum») lane (new .«radius_sum»);
-  responsibility = set (lanes .responsibility) lane (other);
+  responsibility = set (lanes .responsibility) lane other;
 }
 
 module _ (lanes : Relations) (lane : ℕ) (new : Relation) (other : Float) where
   pub eight-relation : Eight-relation lanes → Eight-relation (set-relation lanes lane new other)
-  eight-relation eight = (eight-set (lanes .«position_x») lane (new .position .x) nan (eight .0), eight-set (lanes .«position_y») lane (new .position .y) nan (eight .1), eight-set (lanes .«position_z») lane (new .position .z) nan (eight .2), eight-set (lanes .«velocity_x») lane (new .velocity .x) nan (eight .3), eight-set (lanes .«velocity_y») lane (new .velocity .y) nan (eight .4), eight-set (lanes .«velocity_z») lane (new .velocity .z) nan (eight .5), eight-set (lanes .«radius_sum») lane (new .«radius_sum») nan (eight .6), eight-set (lanes .responsibility) lane (other) nan (eight .7))
+  eight-relation eight = (eight-set (lanes .«position_x») lane (new .position .x) nan (eight .0), eight-set (lanes .«position_y») lane (new .position .y) nan (eight .1), eight-set (lanes .«position_z») lane (new .position .z) nan (eight .2), eight-set (lanes .«velocity_x») lane (new .velocity .x) nan (eight .3), eight-set (lanes .«velocity_y») lane (new .velocity .y) nan (eight .4), eight-set (lanes .«velocity_z») lane (new .velocity .z) nan (eight .5), eight-set (lanes .«radius_sum») lane (new .«radius_sum») nan (eight .6), eight-set (lanes .responsibility) lane other nan (eight .7))
 
   pub relation-here : Eight-relation lanes → lane < 8 → relationIn (set-relation lanes lane new other) lane ≡ new
   relation-here eight below = rw (at-lane (lanes .«position_x») lane (new .position .x) nan (eight .0) below, at-lane (lanes .«position_y») lane (new .position .y) nan (eight .1) below, at-lane (lanes .«position_z») lane (new .position .z) nan (eight .2) below, at-lane (lanes .«velocity_x») lane (new .velocity .x) nan (eight .3) below, at-lane (lanes .«velocity_y») lane (new .velocity .y) nan (eight .4) below, at-lane (lanes .«velocity_z») lane (new .velocity .z) nan (eight .5) below, at-lane (lanes .«radius_sum») lane (new .«radius_sum») nan (eight .6) below)

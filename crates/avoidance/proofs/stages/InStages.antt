@@ -3,7 +3,6 @@ use mathlib.Core.Path.{_≡_, refl, sym}
 use mathlib.Core.Bool.{Bool, true, false, not, _&&_, cond}
 use lib.Ieee.{Float}
 use Rattle.vectors.specs.declared.Vec3.{Vec3}
-use Rattle.vectors.specs.declared.Normalized.{Normalized}
 use Rattle.vectors.specs.declared.Normalized.the-variants.{Scaled, Zeros}
 use Rattle.vectors.specs.Number.{_⊕_, _⊘_, _>ᶠ_, zero, one, finite}
 use Rattle.vectors.specs.Vec3.{zeroVec, _-ᵥ_, _*ᵥ_, _/ᵥ_, length, lengthRecip, lengthSquared, normalizeOrZero, vectorOf, isZeros}

@@ -3,9 +3,9 @@ use borrow.Author.Needs.{needs}
 use Prim.Native.Nat.{ℕ, _-_}
 use mathlib.Core.Path.{refl}
 use native.Mathlib.Omega.{arith}
-use lib.Ieee.{Float, nan}
+use lib.Ieee.{nan}
 use lib.ListN.{getD}
-use Rattle.avoidance.specs.parts.Groups.{relationIn, approachIn}
+use Rattle.avoidance.specs.parts.Groups.{relationIn}
 use Rattle.avoidance.specs.parts.Stages.{approachOf}
 use Rattle.avoidance.proofs.groups.Lanes.{Filled-approach, filled-approach}
 use Rattle.avoidance.proofs.groups.approaches_of.Statement.{statement}

@@ -3,9 +3,9 @@ use borrow.Author.Needs.{needs}
 use Prim.Native.Nat.{ℕ, _-_}
 use mathlib.Core.Path.{refl}
 use native.Mathlib.Omega.{arith}
-use lib.Ieee.{Float, nan}
+use lib.Ieee.{nan}
 use lib.ListN.{getD}
-use Rattle.avoidance.specs.parts.Groups.{relationIn, approachIn, directionIn, planeIn}
+use Rattle.avoidance.specs.parts.Groups.{relationIn, approachIn, directionIn}
 use Rattle.avoidance.specs.parts.Stages.{planeWith}
 use Rattle.avoidance.proofs.groups.Lanes.{Filled-plane, filled-plane}
 use Rattle.avoidance.proofs.groups.planes_with.Statement.{statement}
