@@ -12,9 +12,9 @@ use Rattle.solver.specs.ThreeD.{threeD, startIn, fromPlane, byPlane}
 use Rattle.solver.specs.FourD.{fourD, relaxBy, relaxedTo, turnedAll, kept, turnBy, turnedPlane}
 use Rattle.solver.specs.Solve.{solve, valueOf}
 use Rattle.avoidance.specs.Lent.{vectorAt, agentAt}
-use Rattle.avoidance.specs.Request.{requestNumbers}
+use Rattle.requests.specs.Request.{requestNumbers}
+use Rattle.requests.specs.Checks.{checks, badFallback, firstOf, badNumber, outside, callKind}
 use Rattle.avoidance.specs.Neighbour.{planeFor, relationOf, projected, projectedFree, projectedCollision, collisionNormal, onSphere, onCone, coneTime, share}
-use Rattle.avoidance.specs.Checks.{checks, badFallback, firstOf, badNumber, outside, callKind}
 use Rattle.avoidance.specs.Velocity.{planesOfCall, unseenOfCall, eachFrom, planeOf, finitePlane, answeredWith, outcomeReply, replyOf, planesVerdict, plannedReply, velocityCall}
 use Rattle.avoidance.specs.Claims.{WorkedExamples}
 

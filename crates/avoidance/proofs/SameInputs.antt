@@ -16,10 +16,10 @@ use Rattle.refusals.specs.declared.Found.the-variants.{At, Nothing}
 use Rattle.refusals.specs.Conditions.{firstHolding, some, marked}
 use Rattle.refusals.proofs.Conditions.{no-place, same-place, foundAs, renumbered-holding, joined-holding}
 use Rattle.solver.specs.Solve.{solve}
-use Rattle.avoidance.specs.declared.Request.{Request}
-use Rattle.avoidance.specs.declared.Asked.the-variants.{Finite, InRange}
-use Rattle.avoidance.specs.Checks.{badNumber, callNumbers, ragged, tooMany, shortScratch, badFallback}
-use Rattle.avoidance.specs.Reply.{number}
+use Rattle.requests.specs.declared.Request.{Request}
+use Rattle.requests.specs.declared.Asked.the-variants.{Finite, InRange}
+use Rattle.requests.specs.Checks.{badNumber, callNumbers, ragged, tooMany, shortScratch, badFallback}
+use Rattle.requests.specs.Reply.{number}
 use Rattle.avoidance.specs.Velocity.{planesOfCall, badPlane, velocityCall}
 use Rattle.avoidance.specs.Conditions.{badClamp, velocityConditions, documentOneConditions, SameInputs}
 use Rattle.avoidance.specs.Claims.{SameInputsRefused}

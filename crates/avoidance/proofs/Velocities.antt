@@ -23,11 +23,11 @@ use Rattle.solver.specs.Solve.{solve}
 use Rattle.solver.specs.Claims.{infeasibleAt}
 use Rattle.solver.proofs.solve.Binary32.{solve-is-binary32}
 use Rattle.solver.proofs.Why.{solve-reports}
-use Rattle.avoidance.specs.declared.Request.{Request}
-use Rattle.avoidance.specs.declared.Reply.{Reply}
-use Rattle.avoidance.specs.declared.Reply.the-variants.{Answered, Refused}
-use Rattle.avoidance.specs.Reply.{isAnswered, velocityOf, relaxedOf, unseenOf}
-use Rattle.avoidance.specs.Checks.{checks}
+use Rattle.requests.specs.declared.Request.{Request}
+use Rattle.requests.specs.declared.Reply.{Reply}
+use Rattle.requests.specs.declared.Reply.the-variants.{Answered, Refused}
+use Rattle.requests.specs.Reply.{isAnswered, velocityOf, relaxedOf, unseenOf}
+use Rattle.requests.specs.Checks.{checks}
 use Rattle.avoidance.specs.Velocity.{planesOfCall, firstUnseen, answeredWith, outcomeReply, replyOf, planesVerdict, plannedReply, velocityCall}
 use Rattle.avoidance.specs.Claims.{AnswerFinite, AnswerIsBinary32, NoMinusZero, RelaxedExactly}
 

@@ -18,14 +18,14 @@ use Rattle.solver.specs.declared.OnPlane.the-variants as onPlane
 use Rattle.solver.specs.Lent.{numbersOfPlanes}
 use Rattle.solver.specs.ThreeD.{threeD}
 use Rattle.solver.specs.Claims.{ComesTo, infeasibleAt}
-use Rattle.avoidance.specs.declared.Agent.{Agent}
-use Rattle.avoidance.specs.declared.Request.{Request}
-use Rattle.avoidance.specs.declared.Asked.the-variants.{Finite, InRange}
-use Rattle.avoidance.specs.declared.Reply.{Reply}
-use Rattle.avoidance.specs.Lent.{agentCount}
-use Rattle.avoidance.specs.Checks.{badNumber, callNumbers, badFallback}
+use Rattle.requests.specs.declared.Agent.{Agent}
+use Rattle.requests.specs.declared.Request.{Request}
+use Rattle.requests.specs.declared.Asked.the-variants.{Finite, InRange}
+use Rattle.requests.specs.declared.Reply.{Reply}
+use Rattle.requests.specs.Lent.{agentCount}
+use Rattle.requests.specs.Checks.{badNumber, callNumbers, badFallback}
+use Rattle.requests.specs.Reply.{isAnswered, number, placeOf, velocityOf, relaxedOf, unseenOf}
 use Rattle.avoidance.specs.Neighbour.{planeFor}
-use Rattle.avoidance.specs.Reply.{isAnswered, number, placeOf, velocityOf, relaxedOf, unseenOf}
 use Rattle.avoidance.specs.Velocity.{planesOfCall, badPlane, velocityCall, scratchAfter}
 use Rattle.avoidance.specs.Conditions.{velocityConditions, documentOneConditions, SameInputs}
 use Rattle.avoidance.specs.Examples.{All, examples}
@@ -49,10 +49,6 @@ abbrev pub SameInputsRefused : Type 0
 SameInputsRefused =
     (request : Request) (neighbours : List Float) (scratchLength : ℕ)
     → SameInputs (number (velocityCall request neighbours scratchLength)) (documentOneConditions request neighbours scratchLength)
-
--- A refused velocity is three +0s: the velocity of every reply whose number is not 0.
-abbrev pub RefusedZeros : Type 0
-RefusedZeros = (reply : Reply) → ¬ (number reply ≡ 0) → velocityOf reply ≡ zeroVec
 
 -- ---- places
 

@@ -11,9 +11,9 @@ use Rattle.refusals.specs.Conditions.{First, some, marked}
 use Rattle.solver.specs.declared.Outcome.{Outcome}
 use Rattle.solver.specs.declared.Outcome.the-variants.{Feasible, Infeasible, BadClamp}
 use Rattle.solver.specs.Solve.{solve}
-use Rattle.avoidance.specs.declared.Request.{Request}
-use Rattle.avoidance.specs.declared.Asked.the-variants.{Finite, InRange}
-use Rattle.avoidance.specs.Checks.{badNumber, callNumbers, ragged, tooMany, shortScratch, badFallback}
+use Rattle.requests.specs.declared.Request.{Request}
+use Rattle.requests.specs.declared.Asked.the-variants.{Finite, InRange}
+use Rattle.requests.specs.Checks.{badNumber, callNumbers, ragged, tooMany, shortScratch, badFallback}
 use Rattle.avoidance.specs.Velocity.{planesOfCall, badPlane}
 
 unfoldable pub badClamp : Outcome → Bool

@@ -15,11 +15,11 @@ use Rattle.solver.specs.Lent.{scratchFor}
 use Rattle.solver.specs.ThreeD.{threeD}
 use Rattle.solver.specs.FourD.{fourD, half}
 use Rattle.solver.specs.Examples.{minusOne, oneAndHalf, two, ten}
-use Rattle.avoidance.specs.declared.Agent.{Agent}
-use Rattle.avoidance.specs.declared.Request.{Request}
-use Rattle.avoidance.specs.declared.Reply.{Reply}
-use Rattle.avoidance.specs.declared.Reply.the-variants.{Answered}
-use Rattle.avoidance.specs.Lent.{agentCount}
+use Rattle.requests.specs.declared.Agent.{Agent}
+use Rattle.requests.specs.declared.Request.{Request}
+use Rattle.requests.specs.declared.Reply.{Reply}
+use Rattle.requests.specs.declared.Reply.the-variants.{Answered}
+use Rattle.requests.specs.Lent.{agentCount}
 use Rattle.avoidance.specs.Velocity.{planesOfCall, velocityCall}
 
 -- ---- what an example says

@@ -1,23 +1,16 @@
--- Vectors and agents lent as numbers.
-use Prim.Native.Nat.{ℕ, _/_}
-use mathlib.Core.List.{List, [], _∷_}
+-- Vectors, agents and requests read from lent numbers.
+use mathlib.Core.Bool.{cond}
+use mathlib.Core.List.{List}
+use lib.Dec.{eqb}
 use lib.ListN.{length, getD, drop}
 use lib.Ieee.{Float, nan}
 use Rattle.vectors.specs.declared.Vec3.{Vec3}
-use Rattle.avoidance.specs.declared.Agent.{Agent}
-
--- the numbers of an agent: position, velocity, radius, responsibility
-abbrev pub perAgent : ℕ
-perAgent = 8
-
-abbrev pub velocityPlace : ℕ
-velocityPlace = 3
-
-abbrev pub radiusPlace : ℕ
-radiusPlace = 6
-
-abbrev pub responsibilityPlace : ℕ
-responsibilityPlace = 7
+use Rattle.requests.specs.declared.Agent.{Agent}
+use Rattle.requests.specs.declared.Request.{Request}
+use Rattle.requests.specs.Lent.{velocityPlace, radiusPlace, responsibilityPlace}
+use Rattle.requests.specs.Request.{preferredPlace, maxSpeedPlace, timeStepPlace, horizonPlace, fallbackPlace, perRequest}
+use Rattle.avoidance.specs.declared.lent.ReadRequest.{ReadRequest}
+use Rattle.avoidance.specs.declared.lent.ReadRequest.the-variants.{Is, BadLength}
 
 -- the vector in the first three numbers of a list
 unfoldable pub vectorAt : List Float → Vec3
@@ -32,10 +25,17 @@ agentAt xs = record {
   responsibility = getD xs responsibilityPlace nan;
 }
 
--- its eight numbers
-unfoldable pub agentNumbers : Agent → List Float
-agentNumbers a = a .position .x ∷ a .position .y ∷ a .position .z ∷ a .velocity .x ∷ a .velocity .y ∷ a .velocity .z ∷ a .radius ∷ a .responsibility ∷ []
+-- the request whose numbers are at those places
+unfoldable pub requestAt : List Float → Request
+requestAt xs = record {
+  agent = agentAt xs;
+  preferred = vectorAt (drop preferredPlace xs);
+  «max_speed» = getD xs maxSpeedPlace nan;
+  «time_step» = getD xs timeStepPlace nan;
+  horizon = getD xs horizonPlace nan;
+  fallback = vectorAt (drop fallbackPlace xs);
+}
 
--- how many agents a list holds
-abbrev pub agentCount : List Float → ℕ
-agentCount xs = length xs / perAgent
+-- it is read from 17 numbers, no more and no fewer
+unfoldable pub readRequest : List Float → ReadRequest
+readRequest xs = cond (eqb (length xs) perRequest) (Is (requestAt xs)) BadLength

@@ -1,10 +1,7 @@
--- The velocity call, document 01's module 7: planes from neighbours, the checks, and the answer. To be read beside lib.rs. `Claims` is what is proved of them; `parts`
+-- The velocity call, document 01's module 7: planes from neighbours, and the answer. To be read beside lib.rs. `Claims` is what is proved of them; `parts`
 -- is only what private functions promise each other.
 pub mod Lent
-pub mod Request
 pub mod Neighbour
-pub mod Checks
-pub mod Reply
 pub mod Velocity
 pub mod Conditions
 pub mod Examples

@@ -7,11 +7,11 @@ use Rattle.vectors.specs.Number.{_⊕_, _⊖_, _⊗_, _⊘_, _<ᶠ_, _>ᶠ_, ze
 use Rattle.vectors.specs.Vec3.{zeroVec, _+ᵥ_, _-ᵥ_, _*ᵥ_, _/ᵥ_, dot, cross, lengthSquared, lengthRecip, normalizeOrZero, vectorOf, isZeros}
 use Rattle.vectors.specs.Root.{root}
 use Rattle.solver.specs.declared.Plane.{Plane}
-use Rattle.avoidance.specs.declared.Agent.{Agent}
+use Rattle.solver.specs.Plane.{signedDistance}
+use Rattle.requests.specs.declared.Agent.{Agent}
 use Rattle.avoidance.specs.declared.NeighbourPlane.{NeighbourPlane}
 use Rattle.avoidance.specs.declared.neighbour.Relation.{Relation}
 use Rattle.avoidance.specs.declared.neighbour.Projection.{Projection}
-use Rattle.solver.specs.Plane.{signedDistance}
 
 -- relative_neighbour_position, relative_agent_velocity and sum_radius
 unfoldable pub relationOf : Agent → Agent → Relation

@@ -20,13 +20,14 @@ use Rattle.solver.specs.declared.Outcome.the-variants.{Feasible, Infeasible, Ba
 use Rattle.solver.specs.declared.Solution.{Solution}
 use Rattle.solver.specs.Lent.{perPlane, scratchFor, numbersOfPlanes}
 use Rattle.solver.specs.Solve.{solve}
+use Rattle.requests.specs.declared.Request.{Request}
+use Rattle.requests.specs.declared.Reply.{Reply}
+use Rattle.requests.specs.declared.Reply.the-variants.{Answered, Refused}
+use Rattle.requests.specs.Lent.{perAgent, agentCount}
+use Rattle.avoidance.specs.Lent.{agentAt}
+use Rattle.requests.specs.Checks.{checks}
 use Rattle.avoidance.specs.declared.NeighbourPlane.{NeighbourPlane}
-use Rattle.avoidance.specs.declared.Request.{Request}
-use Rattle.avoidance.specs.declared.Reply.{Reply}
-use Rattle.avoidance.specs.declared.Reply.the-variants.{Answered, Refused}
-use Rattle.avoidance.specs.Lent.{perAgent, agentCount, agentAt}
 use Rattle.avoidance.specs.Neighbour.{planeFor}
-use Rattle.avoidance.specs.Checks.{checks}
 
 -- ---- planes from neighbours, and which of these are unseen
 

@@ -6,9 +6,8 @@ ghost use mathlib.Core.Bool.{true};
 ghost use mathlib.Core.List.{map};
 ghost use Prim.Native.Nat.{_+_, _≤_, _<_};
 ghost use Rattle.vectors.specs.Root.{root};
-ghost use Rattle.avoidance.specs.Lent.{agentCount};
+ghost use Rattle.requests.specs.Lent.{agentCount};
 ghost use Rattle.avoidance.specs.parts.Groups.{Related, Approached, Directed, Planed, Standing};
-use super::Request;
 use super::lent::neighbour_at;
 use super::neighbour::Relation;
 use super::stages::Approach;
@@ -17,6 +16,7 @@ use super::stages::approach_of;
 use super::stages::direction_with;
 use super::stages::plane_with;
 use super::stages::relation_of;
+use requests::Request;
 use vectors::Vec3;
 use vectors::roots::roots;
 

@@ -1,14 +1,28 @@
-// Vectors and agents lent as numbers. The definitions are in `specs/Lent.antt`.
+// Vectors, agents and requests lent as numbers. The definitions are in `specs/Lent.antt`.
 ghost use mathlib.Core.Path.{_≡_};
 ghost use Prim.Native.Nat.{_+_, _*_, _≤_, _<_};
 ghost use lib.ListN.{length, drop};
-ghost use Rattle.avoidance.specs.Lent.{perAgent, agentCount, vectorAt, agentAt};
-use super::AGENT_NUMBERS;
-use super::Agent;
-use super::RADIUS_PLACE;
-use super::RESPONSIBILITY_PLACE;
-use super::VELOCITY_PLACE;
+ghost use Rattle.requests.specs.Lent.{perAgent, agentCount};
+ghost use Rattle.avoidance.specs.Lent.{vectorAt, agentAt, readRequest};
+use requests::AGENT_NUMBERS;
+use requests::Agent;
+use requests::FALLBACK_PLACE;
+use requests::HORIZON_PLACE;
+use requests::MAX_SPEED_PLACE;
+use requests::PREFERRED_PLACE;
+use requests::RADIUS_PLACE;
+use requests::REQUEST_NUMBERS;
+use requests::RESPONSIBILITY_PLACE;
+use requests::Request;
+use requests::TIME_STEP_PLACE;
+use requests::VELOCITY_PLACE;
 use vectors::Vec3;
+
+// What reading a request from lent numbers gives.
+pub enum ReadRequest {
+    Is(Request),
+    BadLength,
+}
 
 // The vector in the three numbers from `at` on.
 pub(crate) fn vector_at(numbers: &[f32], at: usize) -> Vec3
@@ -41,4 +55,21 @@ pub(crate) fn neighbour_at(neighbours: &[f32], index: usize) -> Agent
     ensures { λ r. ⌜ r ≡ agentAt (drop (perAgent * index) (now (neighbours .entry))) ⌝ }
 {
     agent_at(neighbours, AGENT_NUMBERS * index)
+}
+
+// The request whose 17 numbers are lent, each at its place.
+pub fn read_request(numbers: &[f32]) -> ReadRequest
+    ensures { λ r. ⌜ r ≡ readRequest (now (numbers .entry)) ⌝ }
+{
+    if numbers.len() != REQUEST_NUMBERS {
+        return ReadRequest::BadLength;
+    }
+    ReadRequest::Is(Request {
+        agent: agent_at(numbers, 0),
+        preferred: vector_at(numbers, PREFERRED_PLACE),
+        max_speed: numbers[MAX_SPEED_PLACE],
+        time_step: numbers[TIME_STEP_PLACE],
+        horizon: numbers[HORIZON_PLACE],
+        fallback: vector_at(numbers, FALLBACK_PLACE),
+    })
 }

@@ -2,8 +2,8 @@
 // `specs/Neighbour.antt`.
 ghost use mathlib.Core.Path.{_≡_};
 ghost use Rattle.avoidance.specs.Neighbour.{onSphere, coneTime, onCone, projectedFree, collisionNormal, projectedCollision, projected, share, planeFor};
-use super::Agent;
 use super::NeighbourPlane;
+use requests::Agent;
 use solver::Plane;
 use vectors::Vec3;
 use vectors::number::is_finite;

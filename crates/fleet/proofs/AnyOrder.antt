@@ -23,9 +23,9 @@ use Rattle.vectors.specs.declared.Vec3.{Vec3}
 use Rattle.vectors.specs.Number.{zero as zero32}
 use Rattle.vectors.proofs.Truth.{no-truth, both}
 use Rattle.refusals.specs.declared.Verdict.{Verdict}
-use Rattle.avoidance.specs.declared.Reply.{Reply}
-use Rattle.avoidance.specs.Checks.{fullScratch}
-use Rattle.avoidance.specs.Reply.{renamed}
+use Rattle.requests.specs.declared.Reply.{Reply}
+use Rattle.requests.specs.Checks.{fullScratch}
+use Rattle.requests.specs.Reply.{renamed}
 use Rattle.avoidance.proofs.velocity.CallLaws.{enough-scratch}
 use Rattle.records.specs.declared.Record.{Record}
 use Rattle.records.specs.Record.{mostAgents}

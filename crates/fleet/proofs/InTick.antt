@@ -20,11 +20,12 @@ use Rattle.refusals.specs.Conditions.{firstBad}
 use Rattle.refusals.specs.Verdict.{refusedAt}
 use Rattle.refusals.proofs.Conditions.{none-bad}
 use Rattle.refusals.proofs.Verdicts.{not-answered, both-passed, nothing-found}
-use Rattle.avoidance.specs.declared.Reply.{Reply}
-use Rattle.avoidance.specs.Checks.{fullScratch}
-use Rattle.avoidance.specs.Reply.{isAnswered, velocityOf}
+use Rattle.requests.specs.declared.Reply.{Reply}
+use Rattle.requests.specs.Checks.{fullScratch}
+use Rattle.requests.specs.Reply.{isAnswered, velocityOf}
+use Rattle.requests.proofs.ReplyLaws.{renamed-answered, renamed-velocity}
+use Rattle.avoidance.proofs.velocity.CallLaws.{any-scratch}
 use Rattle.avoidance.specs.Velocity.{velocityCall}
-use Rattle.avoidance.proofs.ReplyLaws.{renamed-answered, renamed-velocity, any-scratch}
 use Rattle.records.specs.declared.Record.{Record}
 use Rattle.records.specs.Record.{mostAgents, blank}
 use Rattle.records.specs.Checks.{indexAmong}

@@ -15,7 +15,7 @@ use lib.Ieee.{Float}
 use Rattle.refusals.specs.declared.Verdict.{Verdict}
 use Rattle.refusals.specs.declared.Verdict.the-variants.{Passed, Refused}
 use Rattle.refusals.proofs.Verdicts.{not-passed, both-passed}
-use Rattle.avoidance.specs.declared.Reply.{Reply}
+use Rattle.requests.specs.declared.Reply.{Reply}
 use Rattle.records.specs.declared.Record.{Record}
 use Rattle.records.specs.Record.{mostAgents}
 use Rattle.fleet.specs.declared.Rule.{Rule}

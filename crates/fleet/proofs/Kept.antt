@@ -9,13 +9,13 @@ use lib.Dec.{eqb}
 use lib.Ieee.{Float}
 use lib.ListN.{length, getD, take, drop, set, length-set, length-append, drop-of-length-le}
 use lib.Seq.{drop-cons, take-suc-set, take-at, length-take-le, sets, sets-eq, length-sets}
+use Rattle.requests.specs.Lent.{perAgent, agentNumbers}
+use Rattle.requests.proofs.AgentNumbers.{numbers-many}
+use Rattle.requests.specs.Checks.{neededScratch, fullScratch}
+use borrow.Author.Tests.{eqb-false}
 use Rattle.records.specs.declared.Record.{Record}
 use Rattle.fleet.specs.declared.Rule.{Rule}
 use Rattle.fleet.specs.declared.plan.Neighbours.{Neighbours}
-use borrow.Author.Tests.{eqb-false}
-use Rattle.avoidance.specs.Lent.{perAgent, agentNumbers}
-use Rattle.avoidance.proofs.AgentNumbers.{numbers-many}
-use Rattle.avoidance.specs.Checks.{neededScratch, fullScratch}
 use Rattle.records.specs.Record.{mostAgents, blank, agentOf}
 use Rattle.fleet.specs.Plan.{keeps, keptFrom, neighbourNumbers, ownRecord, neighbourIndices, neighboursOf}
 use Rattle.fleet.specs.parts.Plan.{Lists, withNeighbour}

@@ -13,14 +13,14 @@ use Rattle.vectors.specs.Number.{_>ᶠ_, finite, zero as zero32}
 use Rattle.refusals.specs.declared.Refusal.the-variants.{NotFinite, OutOfRange, NoAgent}
 use Rattle.refusals.specs.declared.Verdict.the-variants.{Passed, Refused}
 use Rattle.refusals.proofs.Verdicts.{not-passed}
-use Rattle.avoidance.specs.declared.Kind.the-variants.{Positive}
-use Rattle.avoidance.specs.declared.Reply.{Reply}
-use Rattle.avoidance.specs.Request.{timeStepPlace}
-use Rattle.avoidance.specs.Checks.{outside}
-use Rattle.avoidance.specs.Reply.{number, renamed}
-use Rattle.avoidance.proofs.Ranges.{above-zero}
-use Rattle.avoidance.proofs.ReplyLaws.{renamed-number, renamed-place}
-use Rattle.avoidance.proofs.checks.CallNumbers.{Allowed, FitAgent, FitRequest, FitNeighbours}
+use Rattle.requests.specs.declared.Kind.the-variants.{Positive}
+use Rattle.requests.specs.declared.Reply.{Reply}
+use Rattle.requests.specs.Request.{timeStepPlace}
+use Rattle.requests.specs.Checks.{outside}
+use Rattle.requests.specs.Reply.{number, renamed}
+use Rattle.requests.proofs.Ranges.{above-zero}
+use Rattle.requests.proofs.ReplyLaws.{renamed-number, renamed-place}
+use Rattle.requests.proofs.checks.CallNumbers.{Allowed, FitAgent, FitRequest, FitNeighbours}
 use Rattle.avoidance.proofs.velocity.FitCalls.{FitReply, fit-call}
 use Rattle.records.specs.declared.Record.{Record}
 use Rattle.records.specs.Record.{blank, agentOf}

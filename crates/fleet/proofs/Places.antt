@@ -20,14 +20,13 @@ use Rattle.refusals.specs.Conditions.{firstHolding, marked, firstBad}
 use Rattle.refusals.specs.Verdict.{_⊳_, refusedIf, refusedAt}
 use Rattle.refusals.proofs.Conditions.{found-lowest}
 use Rattle.refusals.proofs.Verdicts.{Gives, gives-then, gives-held, gives-found}
-use Rattle.avoidance.specs.declared.Reply.{Reply}
-use Rattle.avoidance.specs.declared.Asked.the-variants.{Finite}
-use Rattle.avoidance.specs.Request.{timeStepPlace}
-use Rattle.avoidance.specs.Checks.{badNumber}
-use Rattle.avoidance.specs.Reply as reply
-use Rattle.avoidance.specs.Reply.{nameOf, renamed}
-use Rattle.avoidance.proofs.ReplyLaws.{renamed-number, renamed-place}
-use Rattle.avoidance.proofs.velocity.CallLaws.{bad-plane-renamed}
+use Rattle.requests.specs.declared.Reply.{Reply}
+use Rattle.requests.specs.declared.Asked.the-variants.{Finite}
+use Rattle.requests.specs.Request.{timeStepPlace}
+use Rattle.requests.specs.Checks.{badNumber}
+use Rattle.requests.specs.Reply as reply
+use Rattle.requests.specs.Reply.{nameOf, renamed}
+use Rattle.requests.proofs.ReplyLaws.{renamed-number, renamed-place, bad-plane-renamed}
 use Rattle.avoidance.proofs.velocity.Places.{places-by-answer}
 use Rattle.records.specs.declared.Record.{Record}
 use Rattle.records.specs.Record.{goalWord, mostAgents}

@@ -29,14 +29,14 @@ use Rattle.refusals.specs.Conditions.{firstHolding, isFound, some, marked, firs
 use Rattle.refusals.specs.Verdict.{_⊳_, refusedIf, refusedAt}
 use Rattle.refusals.proofs.Conditions.{no-place, indexOf, orElse, holding-append, foundAs}
 use Rattle.refusals.proofs.Verdicts.{not-answered, said, Says, then, held-says, tested-says, found-says}
-use Rattle.avoidance.specs.declared.Reply.{Reply}
-use Rattle.avoidance.specs.Reply as reply
+use Rattle.requests.specs.declared.Reply.{Reply}
+use Rattle.requests.specs.Reply as reply
+use Rattle.requests.proofs.ReplyLaws.{refusedWith, number-refused, renamed-refused}
+use Rattle.requests.proofs.ReplyLaws as of-reply
 use Rattle.avoidance.specs.Velocity.{velocityCall}
 use Rattle.avoidance.specs.Conditions.{velocityConditions, documentOneConditions}
-use Rattle.avoidance.proofs.Refusals.{refusedWith, by-conditions}
-use Rattle.avoidance.proofs.Refusals as of-reply
+use Rattle.avoidance.proofs.Refusals.{by-conditions}
 use Rattle.avoidance.proofs.SameInputs.{documentOne, told-apart, document-one-holding}
-use Rattle.avoidance.proofs.ReplyLaws.{number-refused, renamed-refused}
 use Rattle.records.specs.declared.Record.{Record}
 use Rattle.records.specs.Record.{mostAgents}
 use Rattle.records.specs.Checks.{indexAmong, recordVerdict}

@@ -11,10 +11,10 @@ use lib.Ieee.{Float}
 use Rattle.vectors.specs.Number.{zero}
 use Rattle.refusals.specs.declared.Refusal.the-variants.{NoAgent}
 use Rattle.refusals.specs.declared.Verdict.the-variants.{Passed, Refused}
-use Rattle.avoidance.specs.declared.Request.{Request}
-use Rattle.avoidance.specs.Checks.{neededScratch}
+use Rattle.requests.specs.declared.Request.{Request}
+use Rattle.requests.specs.Checks.{neededScratch}
+use Rattle.requests.proofs.ReplyLaws.{renamed-number}
 use Rattle.avoidance.specs.Velocity.{scratchAfter}
-use Rattle.avoidance.proofs.ReplyLaws.{renamed-number}
 use Rattle.avoidance.proofs.velocity.Places as call
 use Rattle.fleet.specs.declared.Rule.{Rule}
 use Rattle.fleet.specs.declared.Tick.{Tick}

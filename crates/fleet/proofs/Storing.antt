@@ -20,10 +20,10 @@ use Rattle.refusals.specs.Conditions.{firstBad}
 use Rattle.refusals.specs.Verdict.{refusedAt}
 use Rattle.refusals.proofs.Conditions.{no-place, none-bad}
 use Rattle.refusals.proofs.Verdicts.{both-passed, nothing-found}
-use Rattle.avoidance.specs.declared.Reply.{Reply}
-use Rattle.avoidance.specs.Reply.{isAnswered, velocityOf}
+use Rattle.requests.specs.declared.Reply.{Reply}
+use Rattle.requests.specs.Reply.{isAnswered, velocityOf}
+use Rattle.requests.proofs.ReplyLaws.{renamed-answered, renamed-velocity}
 use Rattle.avoidance.specs.Velocity.{velocityCall}
-use Rattle.avoidance.proofs.ReplyLaws.{renamed-answered, renamed-velocity}
 use Rattle.avoidance.proofs.Velocities.{answer-finite, answer-is-binary32}
 use Rattle.records.specs.declared.Record.{Record}
 use Rattle.records.specs.Record.{mostAgents, goalWord, blank, positionOf, goalOf, withGoal}

@@ -3,7 +3,7 @@ use Prim.Native.Nat.{ℕ}
 use Rattle.vectors.specs.declared.Vec3.{Vec3}
 use Rattle.vectors.specs.Vec3.{zeroVec}
 use Rattle.refusals.specs.Refusal as refusal
-use Rattle.avoidance.specs.Reply as reply
+use Rattle.requests.specs.Reply as reply
 use Rattle.fleet.specs.declared.Answer.{Answer}
 use Rattle.fleet.specs.declared.Answer.the-variants.{Done, Plan, Refused}
 

@@ -10,7 +10,7 @@ use Rattle.vectors.specs.declared.Vec3.{Vec3}
 use Rattle.vectors.specs.Number.{_>ᶠ_, zero, finite}
 use Rattle.vectors.specs.Vec3.{finiteVec}
 use Rattle.refusals.specs.Conditions.{some, marked}
-use Rattle.avoidance.specs.declared.Request.{Request}
+use Rattle.requests.specs.declared.Request.{Request}
 use Rattle.avoidance.specs.Conditions.{velocityConditions}
 use Rattle.records.specs.Record.{mostAgents}
 use Rattle.records.specs.Conditions.{recordConditions, fileConditions}

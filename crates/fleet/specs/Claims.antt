@@ -11,12 +11,12 @@ use Rattle.vectors.specs.Number.{zero}
 use Rattle.vectors.specs.Vec3.{zeroVec}
 use Rattle.refusals.specs.declared.Verdict.the-variants.{Passed}
 use Rattle.refusals.specs.Conditions.{First, some, Lowest}
-use Rattle.avoidance.specs.declared.Request.{Request}
-use Rattle.avoidance.specs.declared.Reply.{Reply}
-use Rattle.avoidance.specs.declared.Asked.the-variants.{Finite}
-use Rattle.avoidance.specs.Request.{timeStepPlace}
-use Rattle.avoidance.specs.Checks.{badNumber, neededScratch, fullScratch}
-use Rattle.avoidance.specs.Reply as reply
+use Rattle.requests.specs.declared.Request.{Request}
+use Rattle.requests.specs.declared.Reply.{Reply}
+use Rattle.requests.specs.declared.Asked.the-variants.{Finite}
+use Rattle.requests.specs.Request.{timeStepPlace}
+use Rattle.requests.specs.Checks.{badNumber, neededScratch, fullScratch}
+use Rattle.requests.specs.Reply as reply
 use Rattle.avoidance.specs.Velocity.{planesOfCall, badPlane, velocityCall, scratchAfter}
 use Rattle.avoidance.specs.Conditions.{documentOneConditions, SameInputs}
 use Rattle.records.specs.declared.Record.{Record}

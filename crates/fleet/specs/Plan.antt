@@ -10,10 +10,10 @@ use Rattle.vectors.specs.Vec3.{_-ᵥ_, distanceSquared}
 use Rattle.refusals.specs.declared.Refusal.the-variants.{NoTick}
 use Rattle.refusals.specs.declared.Verdict.{Verdict}
 use Rattle.refusals.specs.declared.Verdict.the-variants.{Passed, Refused}
-use Rattle.avoidance.specs.declared.Request.{Request}
-use Rattle.avoidance.specs.declared.Reply.{Reply}
-use Rattle.avoidance.specs.Lent.{agentNumbers}
-use Rattle.avoidance.specs.Reply.{isAnswered, velocityOf, renamed}
+use Rattle.requests.specs.declared.Request.{Request}
+use Rattle.requests.specs.declared.Reply.{Reply}
+use Rattle.requests.specs.Lent.{agentNumbers}
+use Rattle.requests.specs.Reply.{isAnswered, velocityOf, renamed}
 use Rattle.avoidance.specs.Velocity.{velocityCall, scratchAfter}
 use Rattle.records.specs.declared.Record.{Record}
 use Rattle.records.specs.Record.{blank, agentOf, positionOf, radiusOf, goalOf, maxSpeedOf, horizonOf, fallbackOf}

@@ -6,7 +6,7 @@ use mathlib.Core.List.{List, [], _∷_}
 use lib.ListN.{length, getD}
 use Rattle.vectors.specs.Vec3.{finiteVec, IsBinary32}
 use Rattle.refusals.specs.declared.Verdict.the-variants.{Passed}
-use Rattle.avoidance.specs.Request.{preferredPlace, maxSpeedPlace}
+use Rattle.requests.specs.Request.{preferredPlace, maxSpeedPlace}
 use Rattle.records.specs.declared.Record.{Record}
 use Rattle.records.specs.Record.{mostAgents, perRecord, blank}
 use Rattle.records.specs.Checks.{recordVerdict}

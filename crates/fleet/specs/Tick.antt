@@ -14,7 +14,7 @@ use Rattle.refusals.specs.declared.Verdict.{Verdict}
 use Rattle.refusals.specs.declared.Verdict.the-variants.{Passed, Refused}
 use Rattle.refusals.specs.Conditions.{firstBad}
 use Rattle.refusals.specs.Verdict.{_⊳_, refusedAt}
-use Rattle.avoidance.specs.Request.{timeStepPlace}
+use Rattle.requests.specs.Request.{timeStepPlace}
 use Rattle.records.specs.declared.Record.{Record}
 use Rattle.records.specs.Record.{goalWord, blank, positionOf, withGoal, movedTo}
 use Rattle.records.specs.Checks.{indexAmong}

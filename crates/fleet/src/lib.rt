@@ -8,11 +8,11 @@ pub mod saving;
 pub mod table;
 pub mod ticks;
 
-use avoidance::Reply;
 use records::MOST_AGENTS;
 use records::RECORD_WORDS;
 use records::Record;
 use refusals::Refusal;
+use requests::Reply;
 use vectors::Vec3;
 
 // What a call on the table answers. A plan that the table does not refuse passes on what the velocity call

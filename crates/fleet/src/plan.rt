@@ -4,7 +4,7 @@ ghost use mathlib.Core.Path.{_≡_};
 ghost use Prim.Native.Nat.{_+_, _≤_, _<_};
 ghost use lib.ListN.{length, take};
 ghost use lib.Seq.{sets};
-ghost use Rattle.avoidance.specs.Lent.{perAgent, agentNumbers};
+ghost use Rattle.requests.specs.Lent.{perAgent, agentNumbers};
 ghost use Rattle.records.specs.Record.{mostAgents};
 ghost use Rattle.fleet.specs.Plan.{queryDistance, nearDistance, keeps, keptFrom, requestFor, replyFor, replyScratch, plansAfter, fleetAfter, answeredBy, planOpen, planCall, scratchOpen, planScratch};
 ghost use Rattle.fleet.specs.parts.Plan.{roomForNumbers, Lists, withNeighbour};
@@ -16,15 +16,15 @@ use super::Slot;
 use super::Tick;
 use super::table::refused;
 use super::ticks::with_held;
-use avoidance::AGENT_NUMBERS;
-use avoidance::Agent;
-use avoidance::Reply;
-use avoidance::Request;
 use avoidance::velocity::velocity;
 use records::MOST_AGENTS;
 use records::Record;
 use refusals::Refusal;
 use refusals::Verdict;
+use requests::AGENT_NUMBERS;
+use requests::Agent;
+use requests::Reply;
+use requests::Request;
 
 // Room for the numbers of as many neighbours as there can be agents.
 const ROOM: usize = 512;

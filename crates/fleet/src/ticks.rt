@@ -15,13 +15,13 @@ use super::Tick;
 use super::table::done;
 use super::table::holding_nothing;
 use super::table::refused;
-use avoidance::TIME_STEP_PLACE;
 use records::GOAL_WORD;
 use records::MOST_AGENTS;
 use records::Record;
 use refusals::Found;
 use refusals::Refusal;
 use refusals::Verdict;
+use requests::TIME_STEP_PLACE;
 use vectors::Vec3;
 use vectors::number::is_finite;
 

@@ -9,7 +9,7 @@ use Prim.Native.Nat.{ℕ, zero, suc}
 use lib.ListN.{length}
 use lib.Ieee.{Float}
 use Rattle.vectors.proofs.Truth.{no-truth}
-use Rattle.avoidance.specs.Checks.{fullScratch}
+use Rattle.requests.specs.Checks.{fullScratch}
 use Rattle.fleet.specs.declared.Rule.{Rule}
 use Rattle.fleet.specs.declared.Fleet.{Fleet}
 use Rattle.fleet.specs.declared.Called.{Called}

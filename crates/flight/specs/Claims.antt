@@ -4,7 +4,7 @@ use mathlib.Core.Path.{_≡_}
 use mathlib.Core.List.{List, []}
 use lib.ListN.{length}
 use lib.Ieee.{Float}
-use Rattle.avoidance.specs.Checks.{fullScratch}
+use Rattle.requests.specs.Checks.{fullScratch}
 use Rattle.records.specs.Record.{mostAgents}
 use Rattle.fleet.specs.declared.Rule.{Rule}
 use Rattle.fleet.specs.declared.Fleet.{Fleet}

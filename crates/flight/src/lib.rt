@@ -7,11 +7,11 @@ ghost use Rattle.fleet.specs.Tick.{closeCall};
 ghost use Rattle.fleet.specs.Table.{agents};
 ghost use Rattle.fleet.specs.Plan.{planCall};
 ghost use Rattle.flight.specs.Tick.{isRefused, unlessRefused, firstPlanned, orDropped, flown, oneTick, ticksInTurn, fileFlown, fileAfter};
-use avoidance::FULL_SCRATCH;
 use fleet::Answer;
 use fleet::Called;
 use fleet::Fleet;
 use fleet::Rule;
+use requests::FULL_SCRATCH;
 
 fn is_refused(last: Called) -> bool
     ensures { λ r. ⌜ r ≡ isRefused last ⌝ }

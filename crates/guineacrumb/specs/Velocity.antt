@@ -8,10 +8,11 @@ use lib.Ieee.{Float}
 use Rattle.vectors.specs.declared.Vec3.{Vec3}
 use Rattle.refusals.specs.declared.Found.{Found}
 use Rattle.refusals.specs.declared.Found.the-variants.{At, Nothing}
+use Rattle.requests.specs.declared.Reply.{Reply}
+use Rattle.requests.specs.Request.{perRequest}
+use Rattle.avoidance.specs.Lent.{requestAt}
+use Rattle.requests.specs.Reply.{number, placeOf, velocityOf, relaxedOf, unseenOf}
 use Rattle.guineacrumb.specs.Unfit.{unfit}
-use Rattle.avoidance.specs.declared.Reply.{Reply}
-use Rattle.avoidance.specs.Request.{perRequest, requestAt}
-use Rattle.avoidance.specs.Reply.{number, placeOf, velocityOf, relaxedOf, unseenOf}
 use Rattle.avoidance.specs.Velocity.{velocityCall, scratchAfter}
 
 -- ---- lengths

@@ -9,8 +9,8 @@ ghost use Rattle.flight.specs.Tick.{fileFlown, fileAfter};
 ghost use Rattle.guineacrumb.specs.Version.{version};
 ghost use Rattle.guineacrumb.specs.Tick.{tickAnswer, fileLeft, tickPlaceLeft};
 ghost use Rattle.guineacrumb.specs.Velocity.{componentsOf, orNone, answer, scratchLeft, velocityLeft, placeLeft, relaxedLeft, unseenLeft};
-use avoidance::ReadRequest;
-use avoidance::Request;
+use avoidance::lent::ReadRequest;
+use avoidance::lent::read_request;
 use fleet::Rule;
 use refusals::Found;
 use vectors::Vec3;
@@ -91,7 +91,7 @@ pub extern "C" fn guineacrumb_velocity(
     if velocity.len() != VELOCITY_NUMBERS {
         return UNFIT;
     }
-    let ReadRequest::Is(asked) = Request::read(request) else {
+    let ReadRequest::Is(asked) = read_request(request) else {
         return UNFIT;
     };
     let reply = avoidance::velocity::velocity(asked, neighbours, scratch);

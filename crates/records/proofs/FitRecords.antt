@@ -7,8 +7,8 @@ use lib.ListN.{length}
 use Rattle.vectors.specs.Vec3.{finiteVec}
 use Rattle.vectors.proofs.Finite.{finite-whole}
 use Rattle.refusals.specs.declared.Verdict.the-variants.{Passed}
-use Rattle.avoidance.specs.declared.Kind.the-variants.{NotNegative, Positive}
-use Rattle.avoidance.proofs.checks.CallNumbers.{Allowed, FitAgent}
+use Rattle.requests.specs.declared.Kind.the-variants.{NotNegative, Positive}
+use Rattle.requests.proofs.checks.CallNumbers.{Allowed, FitAgent}
 use Rattle.records.specs.declared.Record.{Record}
 use Rattle.records.specs.Record.{perRecord, positionWord, velocityWord, radiusWord, responsibilityWord, maxSpeedWord, horizonWord, fallbackWord, marginWord, numberAt, vectorFrom, maxSpeedOf, horizonOf, fallbackOf, agentOf}
 use Rattle.records.specs.Checks.{wordKind, recordVerdict}

@@ -15,9 +15,9 @@ use Rattle.vectors.specs.Vec3.{finiteVec, IsBinary32}
 use Rattle.vectors.proofs.Finite.{finite-parts}
 use Rattle.vectors.proofs.Stored.{stored-finite}
 use Rattle.refusals.proofs.Conditions.{set-good}
-use Rattle.avoidance.specs.declared.Asked.the-variants.{Finite, InRange}
-use Rattle.avoidance.specs.declared.Kind.the-variants.{Any}
-use Rattle.avoidance.proofs.Ranges.{never-outside}
+use Rattle.requests.specs.declared.Asked.the-variants.{Finite, InRange}
+use Rattle.requests.specs.declared.Kind.the-variants.{Any}
+use Rattle.requests.proofs.Ranges.{never-outside}
 use Rattle.records.specs.declared.Record.{Record}
 use Rattle.records.specs.Record.{positionWord, velocityWord, goalWord, fallbackWord, marginWord, distanceWord, wordAt, numberAt, vectorFrom, withVector, withGoal, movedTo}
 use Rattle.records.specs.Checks.{badMargin, wordKind, badWord}

@@ -16,8 +16,8 @@ use Rattle.refusals.specs.Conditions.{firstBad}
 use Rattle.refusals.specs.Verdict.{_⊳_, refusedIf, refusedAt}
 use Rattle.refusals.proofs.Conditions.{none-bad}
 use Rattle.refusals.proofs.Verdicts.{both-passed, nothing-found, does-not-hold}
-use Rattle.avoidance.specs.declared.Asked.the-variants.{Finite, InRange}
-use Rattle.avoidance.specs.Checks.{badFallback}
+use Rattle.requests.specs.declared.Asked.the-variants.{Finite, InRange}
+use Rattle.requests.specs.Checks.{badFallback}
 use Rattle.records.specs.declared.Record.{Record}
 use Rattle.records.specs.Record.{perRecord, fallbackWord, marginWord, blank, wordAt, numberAt, fallbackOf}
 use Rattle.records.specs.Checks.{badMargin, badWord, recordVerdict}

@@ -20,8 +20,8 @@ use Rattle.refusals.specs.Conditions.{First, isFound, some, firstBad}
 use Rattle.refusals.specs.Verdict.{_⊳_, refusedIf, refusedAt}
 use Rattle.refusals.proofs.Conditions.{no-place, same-place, found-lowest}
 use Rattle.refusals.proofs.Verdicts.{Says, Gives, gives-then, gives-held, gives-found}
-use Rattle.avoidance.specs.declared.Asked.the-variants.{Finite, InRange}
-use Rattle.avoidance.specs.Checks.{badFallback}
+use Rattle.requests.specs.declared.Asked.the-variants.{Finite, InRange}
+use Rattle.requests.specs.Checks.{badFallback}
 use Rattle.records.specs.declared.Record.{Record}
 use Rattle.records.specs.Record.{mostAgents, perRecord, fallbackWord, marginWord, distanceWord, blank, wordAt, fallbackOf}
 use Rattle.records.specs.Checks.{indexAmong, badMargin, badWord, recordVerdict}

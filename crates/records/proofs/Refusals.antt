@@ -17,9 +17,9 @@ use Rattle.refusals.specs.Conditions.{isFound, some, marked, firstBad}
 use Rattle.refusals.specs.Verdict.{_⊳_, refusedIf, refusedAt}
 use Rattle.refusals.proofs.Conditions.{no-place, same-place}
 use Rattle.refusals.proofs.Verdicts.{not-answered, Says, then, held-says, tested-says, found-says, none-says}
-use Rattle.avoidance.specs.declared.Asked.{Asked}
-use Rattle.avoidance.specs.declared.Asked.the-variants.{Finite, InRange}
-use Rattle.avoidance.specs.Checks.{badFallback}
+use Rattle.requests.specs.declared.Asked.{Asked}
+use Rattle.requests.specs.declared.Asked.the-variants.{Finite, InRange}
+use Rattle.requests.specs.Checks.{badFallback}
 use Rattle.records.specs.declared.Record.{Record}
 use Rattle.records.specs.Record.{mostAgents, perRecord, fallbackWord, marginWord, distanceWord, wordAt, fallbackOf}
 use Rattle.records.specs.Checks.{indexAmong, badMargin, badWord, recordVerdict}

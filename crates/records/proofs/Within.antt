@@ -13,8 +13,8 @@ use Rattle.refusals.specs.declared.Refusal.the-variants.{BadFile}
 use Rattle.refusals.specs.declared.Verdict.the-variants.{Passed}
 use Rattle.refusals.specs.Conditions.{firstBad}
 use Rattle.refusals.proofs.Conditions.{no-place, same-place, found-lowest}
-use Rattle.avoidance.specs.declared.Asked.{Asked}
 use Rattle.refusals.proofs.Verdicts.{test-passed}
+use Rattle.requests.specs.declared.Asked.{Asked}
 use Rattle.records.specs.declared.Record.{Record}
 use Rattle.records.specs.Record.{mostAgents, perRecord, marginWord, distanceWord, wordAt}
 use Rattle.records.specs.Checks.{badMargin, badWord}

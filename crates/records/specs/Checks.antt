@@ -10,11 +10,11 @@ use Rattle.refusals.specs.declared.Verdict.{Verdict}
 use Rattle.refusals.specs.declared.Verdict.the-variants.{Passed, Refused}
 use Rattle.refusals.specs.Conditions.{firstBad}
 use Rattle.refusals.specs.Verdict.{_⊳_, refusedIf, refusedAt}
-use Rattle.avoidance.specs.declared.Asked.{Asked}
-use Rattle.avoidance.specs.declared.Asked.the-variants.{Finite, InRange}
-use Rattle.avoidance.specs.declared.Kind.{Kind}
-use Rattle.avoidance.specs.declared.Kind.the-variants.{Any, NotNegative, Positive}
-use Rattle.avoidance.specs.Checks.{outside, badFallback}
+use Rattle.requests.specs.declared.Asked.{Asked}
+use Rattle.requests.specs.declared.Asked.the-variants.{Finite, InRange}
+use Rattle.requests.specs.declared.Kind.{Kind}
+use Rattle.requests.specs.declared.Kind.the-variants.{Any, NotNegative, Positive}
+use Rattle.requests.specs.Checks.{outside, badFallback}
 use Rattle.records.specs.declared.Record.{Record}
 use Rattle.records.specs.Record.{radiusWord, responsibilityWord, maxSpeedWord, horizonWord, fallbackWord, marginWord, distanceWord, wordAt, fallbackOf}
 

@@ -13,8 +13,8 @@ use Rattle.refusals.specs.declared.Verdict.{Verdict}
 use Rattle.refusals.specs.declared.Verdict.the-variants.{Passed, Refused}
 use Rattle.refusals.specs.Refusal.{number, placeOf}
 use Rattle.refusals.specs.Conditions.{First, some, Lowest}
-use Rattle.avoidance.specs.declared.Asked.the-variants.{Finite, InRange}
-use Rattle.avoidance.specs.Checks.{outside, badFallback}
+use Rattle.requests.specs.declared.Asked.the-variants.{Finite, InRange}
+use Rattle.requests.specs.Checks.{outside, badFallback}
 use Rattle.records.specs.declared.Record.{Record}
 use Rattle.records.specs.Record.{perRecord, fallbackWord, marginWord, distanceWord, blank, wordAt, numberAt, fallbackOf, withGoal, movedTo}
 use Rattle.records.specs.Checks.{wordKind, badWord, recordVerdict}

@@ -6,8 +6,8 @@ use mathlib.Core.List.{List, [], _∷_, _++_}
 use lib.Dec.{leb, ltb, eqb}
 use lib.ListN.{length}
 use Rattle.refusals.specs.Conditions.{some, marked}
-use Rattle.avoidance.specs.declared.Asked.the-variants.{Finite, InRange}
-use Rattle.avoidance.specs.Checks.{badFallback}
+use Rattle.requests.specs.declared.Asked.the-variants.{Finite, InRange}
+use Rattle.requests.specs.Checks.{badFallback}
 use Rattle.records.specs.declared.Record.{Record}
 use Rattle.records.specs.Record.{mostAgents, marginWord, distanceWord, wordAt, fallbackOf}
 use Rattle.records.specs.Checks.{badWord}

@@ -4,7 +4,7 @@ use lib.ListN.{getD, set, replicate}
 use lib.Ieee.{Float}
 use Rattle.vectors.specs.declared.Vec3.{Vec3}
 use Rattle.vectors.specs.Number.{ofWord, toWord}
-use Rattle.avoidance.specs.declared.Agent.{Agent}
+use Rattle.requests.specs.declared.Agent.{Agent}
 use Rattle.records.specs.declared.Record.{Record}
 
 -- at most so many agents

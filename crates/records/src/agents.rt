@@ -13,7 +13,7 @@ use super::RECORD_WORDS;
 use super::RESPONSIBILITY_WORD;
 use super::Record;
 use super::VELOCITY_WORD;
-use avoidance::Agent;
+use requests::Agent;
 use vectors::Vec3;
 use vectors::number::from_word;
 use vectors::number::to_word;

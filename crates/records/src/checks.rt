@@ -13,13 +13,13 @@ use super::RADIUS_WORD;
 use super::RECORD_WORDS;
 use super::RESPONSIBILITY_WORD;
 use super::Record;
-use avoidance::Asked;
-use avoidance::Kind;
-use avoidance::checks::bad_fallback;
-use avoidance::checks::is_outside;
 use refusals::Found;
 use refusals::Refusal;
 use refusals::Verdict;
+use requests::Asked;
+use requests::Kind;
+use requests::checks::bad_fallback;
+use requests::checks::is_outside;
 use vectors::number::from_word;
 use vectors::number::is_finite;
 

@@ -1,8 +1,6 @@
 // The lines that are printed. Words and numbers, of a velocity and of scratch, are 8 lower-case hex digits of their bits,
 // and the bytes of a buffer 2 each; a refusal's number and place, the plane from which a velocity is relaxed, the bytes
 // saved and a byte of the input are decimal. Each `say` answers whether its line could be written.
-use avoidance::Course;
-use avoidance::Reply;
 use console::Line;
 use console::output::say;
 use fleet::Answer;
@@ -11,6 +9,8 @@ use fleet::Read;
 use records::RECORD_WORDS;
 use refusals::Found;
 use refusals::Refusal;
+use requests::Course;
+use requests::Reply;
 use vectors::Vec3;
 use vectors::number::to_word;
 

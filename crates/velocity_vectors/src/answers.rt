@@ -2,9 +2,9 @@
 ghost use mathlib.Core.Path.{_≡_};
 ghost use mathlib.Core.Bool.{true};
 use super::keys::Key;
-use avoidance::Reply;
 use lines::Fields;
 use refusals::Found;
+use requests::Reply;
 use vectors::number::to_word;
 
 // The plane of an answer that is not relaxed, and the neighbour of one that names none. No line can ask for it as

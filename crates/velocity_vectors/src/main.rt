@@ -36,8 +36,8 @@ mod scratch;
 
 use answers::Answer;
 use answers::Wanted;
-use avoidance::ReadRequest;
-use avoidance::Request;
+use avoidance::lent::ReadRequest;
+use avoidance::lent::read_request;
 use avoidance::velocity::velocity;
 use cases::Case;
 use console::Line;
@@ -48,6 +48,7 @@ use keys::Key;
 use lines::Fields;
 use report::Tally;
 use report::one_more;
+use requests::Request;
 
 // The most bytes of a file, which `report` says too. There is room for one more, to know a longer one by.
 const MOST_BYTES: usize = 65536;
@@ -71,7 +72,7 @@ fn answer_to(request: Request, neighbours: &[f32], scratch: &mut [f32]) -> Answe
 fn call(numbers: &[f32], scratch: &mut [f32]) -> Answer
     requires { ⌜ 17 ≤ length (now numbers) ⌝ }
 {
-    let ReadRequest::Is(request) = Request::read(&numbers[0..17]) else {
+    let ReadRequest::Is(request) = read_request(&numbers[0..17]) else {
         return answers::refusal(255, 0);
     };
     answer_to(request, &numbers[17..], scratch)

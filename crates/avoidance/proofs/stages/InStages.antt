@@ -7,7 +7,7 @@ use Rattle.vectors.specs.declared.Normalized.the-variants.{Scaled, Zeros}
 use Rattle.vectors.specs.Number.{_⊕_, _⊘_, _>ᶠ_, zero, one, finite}
 use Rattle.vectors.specs.Vec3.{zeroVec, _-ᵥ_, _*ᵥ_, _/ᵥ_, length, lengthRecip, lengthSquared, normalizeOrZero, vectorOf, isZeros}
 use Rattle.vectors.specs.Root.{root}
-use Rattle.avoidance.specs.declared.Agent.{Agent}
+use Rattle.requests.specs.declared.Agent.{Agent}
 use Rattle.avoidance.specs.declared.neighbour.Relation.{Relation}
 use Rattle.avoidance.specs.declared.neighbour.Projection.{Projection}
 use Rattle.avoidance.specs.declared.stages.Approach.{Approach}

@@ -1,37 +1,30 @@
 -- What a velocity call on fit numbers answers.
 --     fit-call: an answer, or refusal 2, 3 for the preferred velocity, 6, 18 or 7, and nothing else
-use mathlib.Core.Path.{_≡_, refl, _∙_}
+use mathlib.Core.Path.{_≡_, refl}
 use mathlib.Core.Bool.{Bool, true, false, cond}
-use mathlib.Core.List.{List, []}
-use Prim.Native.Nat.{ℕ, _+_, _*_, _/_, _%_, _≤_, _<_}
-use native.Mathlib.Omega.{arith}
-use lib.ListN.{length, length-append}
-use lib.Ieee.{Float, nan}
-use borrow.Author.Tests.{le-ltb}
+use mathlib.Core.List.{List}
+use Prim.Native.Nat.{ℕ, _≤_, _<_}
+use lib.Ieee.{Float}
 use Rattle.vectors.specs.declared.Vec3.{Vec3}
 use Rattle.vectors.specs.Vec3.{finiteVec, plusZeros}
 use Rattle.refusals.specs.declared.Found.{Found}
 use Rattle.refusals.specs.declared.Found.the-variants.{At, Nothing}
-use Rattle.refusals.specs.declared.Refusal.the-variants.{ShortScratch, NotFinite, PlaneNotFinite, NoVelocity}
-use Rattle.refusals.specs.declared.Verdict.the-variants.{Passed}
+use Rattle.refusals.specs.declared.Refusal.the-variants.{PlaneNotFinite, NoVelocity}
+use Rattle.refusals.specs.declared.Verdict.{Verdict}
 use Rattle.refusals.specs.Conditions.{firstBad}
-use Rattle.refusals.specs.Verdict.{_⊳_, settledBy, refusedIf, refusedAt}
-use Rattle.refusals.proofs.Conditions.{first-later, first-none, found-lowest}
+use Rattle.refusals.specs.Verdict.{settledBy, refusedAt}
 use Rattle.solver.specs.declared.Outcome.{Outcome}
 use Rattle.solver.specs.declared.Outcome.the-variants.{Feasible, Infeasible, BadClamp}
 use Rattle.solver.specs.Solve.{solve}
-use Rattle.avoidance.specs.declared.Request.{Request}
-use Rattle.avoidance.specs.declared.Asked.the-variants.{Finite, InRange}
-use Rattle.avoidance.specs.declared.Reply.{Reply}
-use Rattle.avoidance.specs.declared.Reply.the-variants.{Answered, Refused}
-use Rattle.avoidance.specs.Lent.{perAgent, agentNumbers}
-use Rattle.avoidance.specs.Request.{preferredPlace, maxSpeedPlace}
-use Rattle.avoidance.specs.Checks.{mostNeighbours, callKind, badNumber, ragged, tooMany, neededScratch, shortScratch, checks}
-use Rattle.avoidance.specs.Reply.{number, placeOf}
+use Rattle.requests.specs.declared.Request.{Request}
+use Rattle.requests.specs.declared.Reply.{Reply}
+use Rattle.requests.specs.declared.Reply.the-variants.{Answered, Refused}
+use Rattle.requests.specs.Request.{preferredPlace, maxSpeedPlace}
+use Rattle.requests.specs.Checks.{mostNeighbours, checks}
+use Rattle.requests.specs.Reply.{number, placeOf}
+use Rattle.requests.proofs.checks.CallNumbers.{FitRequest, FitNeighbours}
+use Rattle.requests.proofs.checks.FitChecks.{FitVerdict, fit-checks}
 use Rattle.avoidance.specs.Velocity.{planesOfCall, badPlane, firstUnseen, answeredWith, outcomeReply, replyOf, planesVerdict, plannedReply, velocityCall}
-use Rattle.avoidance.proofs.AgentNumbers.{numbers-many}
-use Rattle.avoidance.proofs.Ranges.{never-outside}
-use Rattle.avoidance.proofs.checks.CallNumbers.{FitRequest, FitNeighbours, vectorNumbers, firstFrom, first-preferred}
 
 pub data FitReply (reply : Reply) : Type 0 where
   isAnswer : number reply ≡ 0 → FitReply reply
@@ -41,50 +34,12 @@ pub data FitReply (reply : Reply) : Type 0 where
   badClamp : number reply ≡ 18 → FitReply reply
   noVelocity : number reply ≡ 7 → FitReply reply
 
--- ---- what the checks find
-
--- nothing, or a place of the preferred velocity
-data InPreferred : Found → Type 0 where
-  nowhere : InPreferred Nothing
-  somewhere : (place : ℕ) → preferredPlace ≤ place → place < maxSpeedPlace → InPreferred (At place)
-
-preferred-finite : (v : Vec3) → InPreferred (firstFrom Finite preferredPlace (vectorNumbers v))
-preferred-finite v = go (firstFrom Finite preferredPlace (vectorNumbers v)) refl
-  where
-    go : (found : Found) → firstFrom Finite preferredPlace (vectorNumbers v) ≡ found → InPreferred found
-    go (At place) e =
-        let lowest = found-lowest (badNumber Finite) preferredPlace (vectorNumbers v) nan place e in
-        somewhere place (omega (arith, lowest .at)) (omega (arith, lowest .at, lowest .within))
-    go Nothing e = nowhere
-
--- its numbers have no range
-preferred-in-range : (v : Vec3) → firstFrom InRange preferredPlace (vectorNumbers v) ≡ Nothing
-unfolding badNumber callKind
-preferred-in-range v =
-    first-later (badNumber InRange) preferredPlace (v .x) _ _ refl (never-outside (v .x))
-    ∙ first-later (badNumber InRange) (preferredPlace + 1) (v .y) _ _ refl (never-outside (v .y))
-    ∙ first-later (badNumber InRange) (preferredPlace + 2) (v .z) _ _ refl (never-outside (v .z))
-    ∙ first-none (badNumber InRange) (preferredPlace + 3) [] refl
-
-fit-length : {n : ℕ} {xs : List Float} → FitNeighbours n xs → length xs ≡ perAgent * n
-fit-length FitNeighbours.none = refl
-fit-length (FitNeighbours.more {n = n} {xs = xs} a fit later) = length-append (agentNumbers a) xs ∙ omega (arith, numbers-many a, fit-length later)
-
-neighbours-whole : {n : ℕ} {xs : List Float} → FitNeighbours n xs → ragged xs ≡ false
-neighbours-whole {xs = xs} fits =
-    let whole : length xs % perAgent ≡ 0 = omega (arith, fit-length fits) in
-    rw whole
-
-neighbours-few : {n : ℕ} {xs : List Float} → FitNeighbours n xs → n ≤ mostNeighbours → tooMany xs ≡ false
-neighbours-few {xs = xs} fits few = le-ltb mostNeighbours (length xs / perAgent) (omega (arith, fit-length fits))
-
 -- ---- what is answered
 
-checked-fit : (short : Bool) (needed : ℕ) (found : Found) (planned : Reply) → InPreferred found → FitReply planned
-    → FitReply (settledBy (refusedIf short (ShortScratch needed) ⊳ refusedAt found NotFinite ⊳ Passed) Refused planned)
-checked-fit true needed found planned unfinite fit = shortOf refl
-checked-fit false needed found planned nowhere fit = fit
-checked-fit false needed found planned (somewhere place low high) fit = farPreferred refl low high
+checked-fit : (verdict : Verdict) (planned : Reply) → FitVerdict verdict → FitReply planned → FitReply (settledBy verdict Refused planned)
+checked-fit _ planned FitVerdict.passes fit = fit
+checked-fit _ planned (FitVerdict.shortOf needed) fit = shortOf refl
+checked-fit _ planned (FitVerdict.farPreferred place low high) fit = farPreferred refl low high
 
 valued-fit : (value : Vec3) (relaxed unseen : Found) → FitReply (answeredWith value relaxed unseen)
 unfolding answeredWith
@@ -112,8 +67,5 @@ planned-fit request neighbours =
     planes-fit (firstBad badPlane 0 planes) (replyOf solution (firstUnseen request neighbours)) (solved-fit (solution .outcome) (solution .value) (firstUnseen request neighbours))
 
 pub fit-call : (request : Request) (neighbours : List Float) (n k : ℕ) → FitRequest request → FitNeighbours n neighbours → n ≤ mostNeighbours → FitReply (velocityCall request neighbours k)
-unfolding velocityCall checks
-fit-call request neighbours n k fit fits few =
-    let in-range = first-preferred InRange request fit neighbours fits ∙ preferred-in-range (request .preferred) in
-    rw (neighbours-whole fits, neighbours-few fits few, first-preferred Finite request fit neighbours fits, in-range, fit .unit)
-    (checked-fit (shortScratch neighbours k) (neededScratch neighbours) _ (plannedReply request neighbours) (preferred-finite (request .preferred)) (planned-fit request neighbours))
+unfolding velocityCall
+fit-call request neighbours n k fit fits few = checked-fit (checks request neighbours k) (plannedReply request neighbours) (fit-checks request neighbours n k fit fits few) (planned-fit request neighbours)

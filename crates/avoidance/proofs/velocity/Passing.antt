@@ -14,8 +14,8 @@ use Rattle.solver.specs.declared.Plane.{Plane}
 use Rattle.solver.specs.Lent.{withPlane, numbersOfPlanes}
 use Rattle.solver.proofs.Written.{with-room, written-length}
 use Rattle.solver.proofs.LentPlanes.{flat-none, written-next}
+use Rattle.requests.specs.declared.Request.{Request}
 use Rattle.avoidance.specs.declared.NeighbourPlane.{NeighbourPlane}
-use Rattle.avoidance.specs.declared.Request.{Request}
 use Rattle.avoidance.specs.declared.velocity.Made.{Made}
 use Rattle.avoidance.specs.declared.velocity.Made.the-variants.{Finite, NotFinite}
 use Rattle.avoidance.specs.Velocity.{planeOf, eachFrom, planesFrom, unseenFrom, finitePlane, badPlane, isUnseen}

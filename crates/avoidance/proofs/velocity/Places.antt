@@ -19,9 +19,9 @@ use Rattle.refusals.specs.declared.Verdict.{Verdict}
 use Rattle.refusals.specs.declared.Verdict.the-variants as verdict
 use Rattle.refusals.specs.Refusal as refusals
 use Rattle.refusals.specs.Conditions.{firstBad, Lowest}
-use Rattle.refusals.specs.Verdict.{_⊳_, settledBy, refusedIf, refusedAt}
+use Rattle.refusals.specs.Verdict.{settledBy, refusedAt}
 use Rattle.refusals.proofs.Conditions.{found-lowest}
-use Rattle.refusals.proofs.Verdicts.{Gives, gives-then, gives-held, gives-found}
+use Rattle.refusals.proofs.Verdicts.{Gives, gives-found}
 use Rattle.solver.specs.declared.Plane.{Plane}
 use Rattle.solver.specs.declared.OnPlane.the-variants as onPlane
 use Rattle.solver.specs.declared.Outcome.{Outcome}
@@ -31,50 +31,22 @@ use Rattle.solver.specs.Solve.{solve}
 use Rattle.solver.specs.Claims.{ComesTo}
 use Rattle.solver.proofs.LentPlanes.{flat-length}
 use Rattle.solver.proofs.Why.{clamps-exactly, solve-reports}
-use Rattle.avoidance.specs.declared.Request.{Request}
-use Rattle.avoidance.specs.declared.Asked.{Asked}
-use Rattle.avoidance.specs.declared.Asked.the-variants.{Finite, InRange}
-use Rattle.avoidance.specs.declared.Reply.{Reply}
-use Rattle.avoidance.specs.declared.Reply.the-variants.{Answered, Refused}
-use Rattle.avoidance.specs.Lent.{agentCount}
-use Rattle.avoidance.specs.Request.{fallbackPlace}
-use Rattle.avoidance.specs.Checks.{badNumber, callNumbers, firstOf, ragged, tooMany, neededScratch, shortScratch, badFallback, checks}
-use Rattle.avoidance.specs.Reply.{number, placeOf}
+use Rattle.requests.specs.declared.Request.{Request}
+use Rattle.requests.specs.declared.Asked.the-variants.{Finite, InRange}
+use Rattle.requests.specs.declared.Reply.{Reply}
+use Rattle.requests.specs.declared.Reply.the-variants.{Answered, Refused}
+use Rattle.requests.specs.Lent.{agentCount}
+use Rattle.requests.specs.Checks.{badNumber, callNumbers, checks}
+use Rattle.requests.specs.Reply.{number, placeOf}
+use Rattle.requests.proofs.ReplyLaws.{GivenBy, settled-gives}
+use Rattle.requests.proofs.checks.Says.{checks-give, lowest-number}
 use Rattle.avoidance.specs.Velocity.{planeOf, planesOfCall, badPlane, firstUnseen, answeredWith, outcomeReply, replyOf, planesVerdict, plannedReply, velocityCall, plannedScratch, scratchAfter}
 use Rattle.avoidance.specs.Claims.{sought, Placed, PlacesByAnswer, ScratchLeft, ScratchByAnswer}
 use Rattle.avoidance.proofs.velocity.Planes.{from-length}
 
 -- ---- what holds of each refusal
 
--- of a reply that is refused
-abbrev GivenBy : (Refusal → Type 0) → Reply → Type 0
-GivenBy Q (Answered course) = Unit {0}
-GivenBy Q (Refused r) = Q r
-
-settled-gives : (Q : Refusal → Type 0) (v : Verdict) (reply : Reply) → Gives Q v → GivenBy Q reply → GivenBy Q (settledBy v Refused reply)
-settled-gives Q verdict.Passed reply first next = next
-settled-gives Q (verdict.Refused r) reply first next = first
-
--- a property of those that the checks give
-checks-give : (Q : Refusal → Type 0) (request : Request) (neighbours : List Float) (k : ℕ)
-    → Q refusal.RaggedNeighbours → Q (refusal.TooManyNeighbours (agentCount neighbours)) → Q (refusal.ShortScratch (neededScratch neighbours))
-    → ((place : ℕ) → firstOf Finite request neighbours ≡ At place → Q (refusal.NotFinite place))
-    → ((place : ℕ) → firstOf InRange request neighbours ≡ At place → Q (refusal.OutOfRange place))
-    → Q (refusal.BadFallback fallbackPlace) → Gives Q (checks request neighbours k)
-unfolding checks
-checks-give Q request neighbours k whole few long finite in-range fit =
-    let unfit = refusedIf (badFallback (request .fallback)) (refusal.BadFallback fallbackPlace) in
-    let outside = refusedAt (firstOf InRange request neighbours) refusal.OutOfRange in
-    let unfinite = refusedAt (firstOf Finite request neighbours) refusal.NotFinite in
-    let short = refusedIf (shortScratch neighbours k) (refusal.ShortScratch (neededScratch neighbours)) in
-    let many = refusedIf (tooMany neighbours) (refusal.TooManyNeighbours (agentCount neighbours)) in
-    gives-then Q (refusedIf (ragged neighbours) refusal.RaggedNeighbours) (many ⊳ short ⊳ unfinite ⊳ outside ⊳ unfit) (gives-held Q (ragged neighbours) refusal.RaggedNeighbours whole)
-    (gives-then Q many (short ⊳ unfinite ⊳ outside ⊳ unfit) (gives-held Q (tooMany neighbours) _ few)
-    (gives-then Q short (unfinite ⊳ outside ⊳ unfit) (gives-held Q (shortScratch neighbours k) _ long)
-    (gives-then Q unfinite (outside ⊳ unfit) (gives-found Q (firstOf Finite request neighbours) refusal.NotFinite finite)
-    (gives-then Q outside unfit (gives-found Q (firstOf InRange request neighbours) refusal.OutOfRange in-range) (gives-held Q (badFallback (request .fallback)) _ fit)))))
-
--- and of those that are given once they passed
+-- of those that are given once the checks passed
 valued-give : (Q : Refusal → Type 0) (value : Vec3) (relaxed unseen : Found) → Q refusal.NoVelocity → GivenBy Q (answeredWith value relaxed unseen)
 unfolding answeredWith
 valued-give Q value relaxed unseen none = go (finiteVec value)
@@ -122,10 +94,6 @@ module _ (request : Request) (neighbours : List Float) where
   abbrev PlacedBy : Refusal → Type 0
   PlacedBy r = PlaceBy (refusals.number r) (refusals.placeOf r)
 
-  lowest-number : (asked : Asked) (place : ℕ) → firstOf asked request neighbours ≡ At place → Lowest (badNumber asked) 0 (callNumbers request neighbours) nan place
-  unfolding firstOf
-  lowest-number asked place e = found-lowest (badNumber asked) 0 (callNumbers request neighbours) nan place e
-
   clamped-on : (plane : ℕ) → solve (planesOfCall request neighbours) (request .«max_speed») (request .preferred) .outcome ≡ BadClamp plane
       → (v : Vec3) × ComesTo (planesOfCall request neighbours) (request .«max_speed») (sought request) plane v onPlane.BadClamp
   clamped-on plane e =
@@ -140,7 +108,7 @@ module _ (request : Request) (neighbours : List Float) where
   unfolding velocityCall
   call-placed k =
       settled-gives PlacedBy (checks request neighbours k) (plannedReply request neighbours)
-      (checks-give PlacedBy request neighbours k refl refl refl (lowest-number Finite) (lowest-number InRange) refl)
+      (checks-give PlacedBy request neighbours k refl refl refl (lowest-number request neighbours Finite) (lowest-number request neighbours InRange) refl)
       (planned-gives PlacedBy request neighbours (λ neighbour e d. found-lowest badPlane 0 (planesOfCall request neighbours) d neighbour e) clamped-on refl)
 
   placed : (answer place : ℕ) → PlaceBy answer place → Placed request neighbours answer place

@@ -1,45 +1,31 @@
 -- A neighbour is unseen exactly where its plane's normal is zero, and an answer names the lowest such neighbour: the claims of document 02's [6].
 use mathlib.Core.Path.{_≡_, refl, sym, ap, _∙_}
-use mathlib.Core.Bool.{Bool, true, false, _&&_, cond, true≢false}
+use mathlib.Core.Bool.{Bool, true, false, _&&_, cond}
 use mathlib.Core.List.{List, []}
 use Prim.Native.Nat.{ℕ, zero, suc, _+_}
 use native.Mathlib.Nat.{zero-add}
 use lib.ListN.{drop, getD}
-use lib.Ieee.{Float, lt, ofBits}
+use lib.Ieee.{Float}
 use Rattle.vectors.specs.declared.Vec3.{Vec3}
 use Rattle.vectors.specs.Number.{_⊗_, _<ᶠ_, _>ᶠ_, finite, zero as zero32}
 use Rattle.vectors.specs.Vec3.{_-ᵥ_, _*ᵥ_, _/ᵥ_, dot, lengthSquared, lengthRecip, allZero}
-use Rattle.vectors.proofs.vector.NotZero.{scaled-not-zero, normalized-zeros, zero-dot}
-use Rattle.refusals.specs.declared.Found.the-variants.{Nothing}
+use Rattle.vectors.proofs.vector.NotZero.{scaled-not-zero, normalized-zeros}
 use Rattle.refusals.specs.Conditions.{firstBad}
 use Rattle.refusals.proofs.Conditions.{first-here, first-later, first-none, none-bad, all-good, lowest}
-use Rattle.avoidance.specs.declared.Request.{Request}
-use Rattle.avoidance.specs.declared.Reply.{Reply}
-use Rattle.avoidance.specs.declared.Reply.the-variants.{Answered, Refused}
+use Rattle.requests.specs.declared.Request.{Request}
+use Rattle.requests.specs.Lent.{perAgent, agentCount}
+use Rattle.requests.specs.Checks.{badFallback, checks}
+use Rattle.requests.specs.Reply.{isAnswered, unseenOf}
+use Rattle.requests.proofs.ReplyLaws.{answered-passed, refused-none}
+use Rattle.requests.proofs.checks.Passed.{passed-fallback, fallback-not-zero}
 use Rattle.avoidance.specs.declared.neighbour.Relation.{Relation}
 use Rattle.avoidance.specs.declared.neighbour.Projection.{Projection}
-use Rattle.avoidance.specs.Lent.{perAgent, agentCount}
-use Rattle.avoidance.specs.Checks.{badFallback, checks}
 use Rattle.avoidance.specs.Neighbour.{relationOf, onSphere, onCone, projectedFree, collisionNormal, projectedCollision, projected, planeFor}
-use Rattle.avoidance.specs.Reply.{isAnswered, unseenOf}
 use Rattle.avoidance.specs.Velocity.{planeOf, eachFrom, planesFrom, unseenFrom, planesOfCall, unseenOfCall, isUnseen, firstUnseen, plannedReply, velocityCall}
 use Rattle.avoidance.specs.Claims.{zeroNormal, ZeroNormal, UnseenLowest}
-use Rattle.avoidance.proofs.ReplyLaws.{answered-passed, passed-fallback}
 use Rattle.avoidance.proofs.Velocities.{answer-unseen}
 
 -- ---- a normal is zero only where it is said
-
--- a fallback that is accepted is not zero
-fallback-not-zero : (fallback : Vec3) → badFallback fallback ≡ false → allZero fallback ≡ false
-unfolding badFallback
-fallback-not-zero fallback fit = go (allZero fallback) refl
-  where
-    short : badFallback fallback ≡ true → badFallback fallback ≡ false → true ≡ false
-    short bad good = sym bad ∙ good
-
-    go : (b : Bool) → allZero fallback ≡ b → b ≡ false
-    go true e = absurd (true≢false (short (rw (zero-dot fallback e) (unfold lt ofBits in refl)) fit))
-    go false e = refl
 
 -- the projection says whether its normal is zero
 abbrev Says : Projection → Type 0
@@ -110,10 +96,6 @@ module _ (request : Request) (fit : badFallback (request .fallback) ≡ false) w
   first-zero neighbours = same-first (agentCount neighbours) 0 neighbours
 
 -- ---- what a reply names
-
-refused-none : (reply : Reply) → isAnswered reply ≡ false → unseenOf reply ≡ Nothing
-refused-none (Answered course) e = absurd (true≢false e)
-refused-none (Refused r) e = refl
 
 module _ (request : Request) (neighbours : List Float) (k : ℕ) (answered : isAnswered (velocityCall request neighbours k) ≡ true) where
   names-first : unseenOf (velocityCall request neighbours k) ≡ firstBad zeroNormal 0 (planesOfCall request neighbours)

@@ -6,8 +6,10 @@ use mathlib.Core.List.{List}
 use lib.ListN.{drop, getD}
 use lib.Ieee.{Float, nan}
 use Rattle.vectors.specs.declared.Vec3.{Vec3}
-use Rattle.avoidance.specs.declared.Agent.{Agent}
-use Rattle.avoidance.specs.declared.Request.{Request}
+use Rattle.requests.specs.declared.Agent.{Agent}
+use Rattle.requests.specs.declared.Request.{Request}
+use Rattle.requests.specs.Lent.{perAgent}
+use Rattle.avoidance.specs.Lent.{agentAt}
 use Rattle.avoidance.specs.declared.NeighbourPlane.{NeighbourPlane}
 use Rattle.avoidance.specs.declared.neighbour.Relation.{Relation}
 use Rattle.avoidance.specs.declared.stages.Approach.{Approach}
@@ -16,7 +18,6 @@ use Rattle.avoidance.specs.declared.groups.Relations.{Relations}
 use Rattle.avoidance.specs.declared.groups.Approaches.{Approaches}
 use Rattle.avoidance.specs.declared.groups.Directions.{Directions}
 use Rattle.avoidance.specs.declared.groups.Planes.{Planes}
-use Rattle.avoidance.specs.Lent.{perAgent, agentAt}
 use Rattle.avoidance.specs.Neighbour.{relationOf}
 use Rattle.avoidance.specs.Velocity.{planeOf}
 use Rattle.avoidance.specs.parts.Stages.{approachOf, directionWith, planeWith}

@@ -10,8 +10,8 @@ use Rattle.refusals.specs.declared.Found.the-variants.{At, Nothing}
 use Rattle.refusals.specs.Conditions.{firstBad}
 use Rattle.solver.specs.declared.Plane.{Plane}
 use Rattle.solver.specs.Lent.{perPlane, withPlane, numbersOfPlanes}
+use Rattle.requests.specs.declared.Request.{Request}
 use Rattle.avoidance.specs.declared.NeighbourPlane.{NeighbourPlane}
-use Rattle.avoidance.specs.declared.Request.{Request}
 use Rattle.avoidance.specs.declared.velocity.Made.{Made}
 use Rattle.avoidance.specs.declared.velocity.Made.the-variants.{Finite, NotFinite}
 use Rattle.avoidance.specs.Velocity.{planesFrom, unseenFrom, finitePlane, badPlane, isUnseen}

@@ -4,7 +4,7 @@ use mathlib.Core.Path.{_≡_}
 use mathlib.Core.List.{List}
 use lib.ListN.{length, take, set}
 use lib.Seq.{sets}
-use Rattle.avoidance.specs.Lent.{perAgent, agentNumbers}
+use Rattle.requests.specs.Lent.{perAgent, agentNumbers}
 use Rattle.records.specs.declared.Record.{Record}
 use Rattle.records.specs.Record.{mostAgents, agentOf}
 use Rattle.fleet.specs.declared.plan.Neighbours.{Neighbours}

@@ -3,7 +3,7 @@ use mathlib.Core.Path.{_≡_, ap, _∙_}
 use Prim.Native.Nat.{ℕ, _-_, _≤_}
 use native.Mathlib.Omega.{arith}
 use lib.ListN.{length}
-use Rattle.avoidance.specs.Checks.{fullScratch}
+use Rattle.requests.specs.Checks.{fullScratch}
 use Rattle.fleet.specs.Table.{agents}
 use Rattle.flight.specs.Tick.{firstPlanned}
 use Rattle.flight.proofs.Steps.{one-more}

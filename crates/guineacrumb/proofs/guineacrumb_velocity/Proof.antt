@@ -8,10 +8,11 @@ use lib.Ieee.{Float}
 use borrow.Author.Needs.{needs}
 use borrow.Author.Tests.{eq-eqb, ne-eqb}
 use denote.Ref.{now}
-use Rattle.avoidance.specs.declared.Request.{Request}
-use Rattle.avoidance.specs.declared.ReadRequest.the-variants.{Is, BadLength}
-use Rattle.avoidance.specs.Request.{perRequest, requestAt, readRequest}
-use Rattle.avoidance.proofs.RequestLaws.{not-read, is-read}
+use Rattle.requests.specs.declared.Request.{Request}
+use Rattle.avoidance.specs.declared.lent.ReadRequest.the-variants.{Is, BadLength}
+use Rattle.requests.specs.Request.{perRequest}
+use Rattle.avoidance.specs.Lent.{requestAt, readRequest}
+use Rattle.avoidance.proofs.lent.RequestLaws.{not-read, is-read}
 use Rattle.guineacrumb.specs.Velocity.{fits, replyTo, answer, scratchLeft, velocityLeft, placeLeft, relaxedLeft, unseenLeft}
 use Rattle.guineacrumb.proofs.guineacrumb_velocity.Statement.{statement}
 use Rattle.guineacrumb.proofs.guineacrumb_velocity.Tie as tie
@@ -43,8 +44,8 @@ returns c =
     let unfit = bad-velocity (now (start .args .velocity)) (now (start .args .request)) (c .if1 .taken) in
     (simp unfit, (simp unfit, (simp unfit, (simp unfit, (simp unfit, simp unfit)))))
 
-read-requires : tie.Need-read-requires
-read-requires c κs = search needs
+read-request-requires : tie.Need-read-request-requires
+read-request-requires c κs = search needs
 
 enum-known-asked : tie.Need-enum-known-asked
 enum-known-asked c = search needs
@@ -57,7 +58,7 @@ unfolding answer scratchLeft velocityLeft placeLeft relaxedLeft unseenLeft
 returns-2 c =
     let read = c .before .before in
     let start = read .before .before .before .before .before .before in
-    let unfit = bad-request (now (start .args .velocity)) (now (start .args .request)) (sym (read .read .ensures) ∙ c .enum-told .given .1) in
+    let unfit = bad-request (now (start .args .velocity)) (now (start .args .request)) (sym (read .read-request .ensures) ∙ c .enum-told .given .1) in
     (simp unfit, (simp unfit, (simp unfit, (simp unfit, (simp unfit, simp unfit)))))
 
 velocity-requires : tie.Need-velocity-requires
@@ -100,7 +101,7 @@ returns-3 c =
     let given = called .before .before .before in
     let read = given .before .before in
     let start = read .before .before .before .before .before .before in
-    let fit = good (now (start .args .velocity)) (now (start .args .request)) _ (read .before .if1 .left) (sym (read .read .ensures) ∙ given .asked .given .1) in
+    let fit = good (now (start .args .velocity)) (now (start .args .request)) _ (read .before .if1 .left) (sym (read .read-request .ensures) ∙ given .asked .given .1) in
     let fits = fit .0 in
     let request = fit .1 in
     let reply = called .velocity .ensures .0 in
@@ -116,7 +117,7 @@ guineacrumb-velocity-spec =
     tie.close
     (tie.spec
     returns
-    read-requires
+    read-request-requires
     enum-known-asked
     enum-told
     returns-2

@@ -8,8 +8,8 @@ use lib.Ieee.{Float, nan}
 use lib.ListN.{getD, List·getD-map}
 use Rattle.vectors.specs.Root.{root}
 use Rattle.vectors.proofs.root.Nearest.{root-of-nan}
-use Rattle.avoidance.specs.declared.Agent.{Agent}
-use Rattle.avoidance.specs.declared.Request.{Request}
+use Rattle.requests.specs.declared.Agent.{Agent}
+use Rattle.requests.specs.declared.Request.{Request}
 use Rattle.avoidance.specs.declared.neighbour.Relation.{Relation}
 use Rattle.avoidance.specs.declared.stages.Approach.{Approach}
 use Rattle.avoidance.specs.declared.stages.Direction.{Direction}

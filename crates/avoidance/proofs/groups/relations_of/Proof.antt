@@ -6,7 +6,7 @@ use native.Mathlib.Omega.{arith}
 use denote.Ref.{now}
 use lib.Ieee.{nan}
 use lib.ListN.{getD}
-use Rattle.avoidance.specs.declared.Agent.{Agent}
+use Rattle.requests.specs.declared.Agent.{Agent}
 use Rattle.avoidance.specs.Neighbour.{relationOf}
 use Rattle.avoidance.specs.parts.Groups.{relationIn, EachBelow, neighbourIn}
 use Rattle.avoidance.proofs.groups.Lanes.{one-more, at-lane, off-lane, Eight-relation, set-relation, eight-relation, relation-here, relation-before}

@@ -11,18 +11,18 @@ use lib.ListN.{length, drop, replicate, drop-of-length-le}
 use Rattle.vectors.specs.Number.{zero}
 use Rattle.solver.specs.declared.Plane.{Plane}
 use Rattle.solver.specs.declared.Solution.{Solution}
-use Rattle.avoidance.specs.declared.Request.{Request}
 use Rattle.refusals.specs.declared.Found.{Found}
-use Rattle.avoidance.specs.declared.Reply.{Reply}
 use Rattle.refusals.specs.Conditions.{firstBad}
 use Rattle.solver.specs.Lent.{planesOf, numbersOfPlanes}
 use Rattle.solver.specs.FourD.{halfCleared}
 use Rattle.solver.specs.Solve.{solve}
+use Rattle.solver.proofs.four_d.Scratch.{cleared-length}
+use Rattle.solver.proofs.LentPlanes.{flat-read, half-cleared}
+use Rattle.requests.specs.declared.Request.{Request}
+use Rattle.requests.specs.declared.Reply.{Reply}
 use Rattle.avoidance.specs.declared.velocity.Made.the-variants.{Finite}
 use Rattle.avoidance.specs.parts.Velocity.{madeOf}
 use Rattle.avoidance.specs.Velocity.{planesOfCall, unseenOfCall, badPlane, firstUnseen, replyOf, planesVerdict, plannedReply, plannedScratch}
-use Rattle.solver.proofs.four_d.Scratch.{cleared-length}
-use Rattle.solver.proofs.LentPlanes.{flat-read, half-cleared}
 use Rattle.avoidance.proofs.velocity.Planes.{from-length, none-made, one-made}
 use Rattle.avoidance.proofs.velocity.planned.Statement.{statement}
 use Rattle.avoidance.proofs.velocity.planned.Tie as tie

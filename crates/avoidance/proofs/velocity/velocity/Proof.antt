@@ -12,11 +12,11 @@ use Rattle.vectors.specs.Number.{zero}
 use Rattle.refusals.specs.declared.Verdict.the-variants.{Passed}
 use Rattle.solver.specs.declared.Plane.{Plane}
 use Rattle.solver.specs.Lent.{numbersOfPlanes}
-use Rattle.avoidance.specs.declared.Reply.{Reply}
-use Rattle.avoidance.specs.declared.Reply.the-variants.{Answered, Refused}
-use Rattle.avoidance.specs.Checks.{checks}
+use Rattle.requests.specs.declared.Reply.{Reply}
+use Rattle.requests.specs.declared.Reply.the-variants.{Answered, Refused}
+use Rattle.requests.specs.Checks.{checks}
+use Rattle.requests.proofs.checks.Passed.{passed-fits}
 use Rattle.avoidance.specs.Velocity.{planesOfCall, velocityCall, plannedScratch, scratchAfter}
-use Rattle.avoidance.proofs.ReplyLaws.{passed-fits}
 use Rattle.avoidance.proofs.velocity.velocity.Statement.{statement}
 use Rattle.avoidance.proofs.velocity.velocity.Tie as tie
 

@@ -5,7 +5,7 @@ use native.Mathlib.Nat.{add-zero, add-assoc}
 use native.Mathlib.Omega.{arith}
 use borrow.Author.Needs.{needs}
 use denote.Ref.{now}
-use Rattle.avoidance.specs.declared.Request.{Request}
+use Rattle.requests.specs.declared.Request.{Request}
 use Rattle.avoidance.specs.declared.velocity.Made.the-variants.{Finite}
 use Rattle.avoidance.specs.parts.Groups.{Standing}
 use Rattle.avoidance.specs.parts.Velocity.{Passed}

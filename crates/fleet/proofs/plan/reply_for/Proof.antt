@@ -6,9 +6,9 @@ use native.Mathlib.Omega.{arith}
 use lib.Ieee.{Float}
 use lib.ListN.{length, take, length-map}
 use lib.Seq.{getD-take, length-take-le}
-use Rattle.avoidance.specs.declared.Request.{Request}
-use Rattle.avoidance.specs.declared.Reply.{Reply}
-use Rattle.avoidance.specs.Reply.{renamed}
+use Rattle.requests.specs.declared.Request.{Request}
+use Rattle.requests.specs.declared.Reply.{Reply}
+use Rattle.requests.specs.Reply.{renamed}
 use Rattle.avoidance.specs.Velocity.{velocityCall, scratchAfter}
 use Rattle.records.specs.Record.{blank}
 use Rattle.fleet.specs.Plan.{keptFrom, neighbourNumbers, requestFor, ownRecord, neighbourIndices, neighboursOf, replyFor, replyScratch}

@@ -3,7 +3,7 @@ use mathlib.Core.Path.{_≡_}
 use Prim.Native.Nat.{suc, _+_}
 use native.Mathlib.Numerals.{add-one}
 use native.Mathlib.Omega.{arith}
-use Rattle.avoidance.proofs.AgentNumbers.{numbers-are}
+use Rattle.requests.proofs.AgentNumbers.{numbers-are}
 use borrow.Author.Needs.{needs}
 use Rattle.fleet.proofs.plan.write_agent.Statement.{statement}
 use Rattle.fleet.proofs.plan.write_agent.Tie as tie

@@ -1,2 +1,0 @@
--- Laws of the checks, beside the proofs of their functions.
-pub mod CallNumbers

@@ -1,0 +1,2 @@
+-- Laws of what is read, beside the proofs of the functions.
+pub mod RequestLaws
