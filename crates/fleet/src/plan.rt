@@ -7,7 +7,7 @@ ghost use lib.Seq.{sets};
 ghost use Rattle.requests.specs.Lent.{perAgent, agentNumbers};
 ghost use Rattle.records.specs.Record.{mostAgents};
 ghost use Rattle.fleet.specs.Plan.{queryDistance, nearDistance, keeps, keptFrom, requestFor, replyFor, replyScratch, plansAfter, fleetAfter, answeredBy, planOpen, planCall, scratchOpen, planScratch};
-ghost use Rattle.fleet.specs.parts.Plan.{roomForNumbers, Lists, withNeighbour};
+ghost use Rattle.fleet.specs.parts.Plan.{roomForNumbers, Lists};
 use super::Answer;
 use super::Called;
 use super::Fleet;
@@ -83,20 +83,8 @@ fn write_agent(numbers: &mut [f32; ROOM], at: usize, agent: Agent)
     numbers[at + 7] = agent.responsibility;
 }
 
-// One neighbour more, after the others.
-fn with_neighbour(neighbours: Neighbours, index: usize, stored: Record) -> Neighbours
-    requires { ⌜ neighbours .count < mostAgents ⌝ }
-    ensures { λ r. ⌜ r ≡ withNeighbour neighbours index stored ⌝ }
-{
-    let mut out = neighbours;
-    let count = out.count;
-    write_agent(&mut out.numbers, AGENT_NUMBERS * count, stored.agent());
-    out.indices[count] = index;
-    out.count = count + 1;
-    out
-}
-
-// The others that the rule keeps, by rising index.
+// The others that the rule keeps, by rising index, each after those before it. They are written where they stay: a list
+// handed on would be copied for each.
 fn neighbours_of(
     rule: Rule,
     own: Record,
@@ -117,7 +105,10 @@ fn neighbours_of(
         let other = records[at];
         if at != index {
             if keeps(rule, own, other) {
-                kept = with_neighbour(kept, at, other);
+                let listed = kept.count;
+                write_agent(&mut kept.numbers, AGENT_NUMBERS * listed, other.agent());
+                kept.indices[listed] = at;
+                kept.count = listed + 1;
             }
         }
         at += 1;

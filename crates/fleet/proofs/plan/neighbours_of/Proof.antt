@@ -36,10 +36,23 @@ array-copy-out-other c = search needs
 keeps-requires : tie.Need-keeps-requires Inv-loop μ-loop
 keeps-requires c κs = search needs
 
-with-neighbour-requires : tie.Need-with-neighbour-requires Inv-loop μ-loop
-with-neighbour-requires c κs =
-    let at = c .before .before .before .before .before in
-    omega (arith, at .loop .inv .1 .few, c .before .before .before .before .loop-test .taken, at .before .pre)
+mul-write-agent : tie.Need-mul-write-agent Inv-loop μ-loop
+mul-write-agent c = search needs
+
+agent-requires : tie.Need-agent-requires Inv-loop μ-loop
+agent-requires c κs = search needs
+
+write-agent-requires : tie.Need-write-agent-requires Inv-loop μ-loop
+write-agent-requires c κs = search needs
+
+mul-kept : tie.Need-mul-kept Inv-loop μ-loop
+mul-kept c = search needs
+
+element-write-kept : tie.Need-element-write-kept Inv-loop μ-loop
+element-write-kept c = search needs
+
+add-kept : tie.Need-add-kept Inv-loop μ-loop
+add-kept c = search needs
 
 add-at : tie.Need-add-at Inv-loop μ-loop
 add-at c = search needs
@@ -48,6 +61,7 @@ loop-less : tie.Need-loop-less Inv-loop μ-loop
 loop-less c = search needs
 
 loop-again : tie.Need-loop-again Inv-loop μ-loop
+unfolding withNeighbour
 loop-again c =
     let at = c .before .before .before in
     let start = at .before in
@@ -69,7 +83,7 @@ loop-again c =
           (λ w.
           let apart = ne-eqb i index (w .0 .taken) in
           let near : keeps rule own (getD rs i blank) ≡ true = ap (keeps rule own) same ∙ sym (w .1 .ensures) ∙ w .2 .taken in
-          let grown : c .if1 .kept ≡ withNeighbour (at .loop .kept) i (getD rs i blank) = w .4 ∙ w .3 .ensures ∙ ap (withNeighbour (at .loop .kept) i) (sym same) in
+          let grown : c .if1 .kept ≡ withNeighbour (at .loop .kept) i (getD rs i blank) = w .6 ∙ rw (w .5 .ensures, w .4 .ensures) (ap (withNeighbour (at .loop .kept) i) (sym same)) in
           subst Next (sym grown) (added rule own index rs i (at .loop .kept) there small (rw (apart, near)) (at .loop .inv .1)))
           (⊎-elim
           (λ w.
@@ -98,7 +112,12 @@ neighbours-of-spec =
     mul-other
     array-copy-out-other
     keeps-requires
-    with-neighbour-requires
+    mul-write-agent
+    agent-requires
+    write-agent-requires
+    mul-kept
+    element-write-kept
+    add-kept
     add-at
     loop-less
     loop-again
