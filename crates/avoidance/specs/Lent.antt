@@ -25,7 +25,7 @@ agentAt xs = record {
   responsibility = getD xs responsibilityPlace nan;
 }
 
--- the request whose numbers are at those places
+-- the request whose numbers are at document 01's places
 unfoldable pub requestAt : List Float → Request
 requestAt xs = record {
   agent = agentAt xs;
