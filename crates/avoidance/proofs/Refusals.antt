@@ -28,7 +28,8 @@ use Rattle.requests.specs.declared.Reply.the-variants.{Answered, Refused}
 use Rattle.requests.specs.Checks.{checks}
 use Rattle.requests.proofs.ReplyLaws.{refusedWith, reply-says, numbered, unrefused}
 use Rattle.requests.proofs.checks.Says.{checks-say}
-use Rattle.avoidance.specs.Velocity.{planesOfCall, badPlane, firstUnseen, answeredWith, outcomeReply, replyOf, planesVerdict, plannedReply, velocityCall}
+use Rattle.planes.specs.Planes.{planesOfCall, badPlane, firstUnseen}
+use Rattle.avoidance.specs.Velocity.{answeredWith, outcomeReply, replyOf, planesVerdict, plannedReply, velocityCall}
 use Rattle.avoidance.specs.Conditions.{badClamp, velocityConditions}
 use Rattle.avoidance.specs.Claims.{RefusedExactly, AnsweredExactly, ScratchUnread, SameCall}
 

@@ -20,7 +20,8 @@ use Rattle.requests.specs.declared.Request.{Request}
 use Rattle.requests.specs.declared.Asked.the-variants.{Finite, InRange}
 use Rattle.requests.specs.Checks.{badNumber, callNumbers, ragged, tooMany, shortScratch, badFallback}
 use Rattle.requests.specs.Reply.{number}
-use Rattle.avoidance.specs.Velocity.{planesOfCall, badPlane, velocityCall}
+use Rattle.planes.specs.Planes.{planesOfCall, badPlane}
+use Rattle.avoidance.specs.Velocity.{velocityCall}
 use Rattle.avoidance.specs.Conditions.{badClamp, velocityConditions, documentOneConditions, SameInputs}
 use Rattle.avoidance.specs.Claims.{SameInputsRefused}
 use Rattle.avoidance.proofs.Refusals.{refused-exactly}

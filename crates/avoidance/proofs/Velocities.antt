@@ -28,7 +28,8 @@ use Rattle.requests.specs.declared.Reply.{Reply}
 use Rattle.requests.specs.declared.Reply.the-variants.{Answered, Refused}
 use Rattle.requests.specs.Reply.{isAnswered, velocityOf, relaxedOf, unseenOf}
 use Rattle.requests.specs.Checks.{checks}
-use Rattle.avoidance.specs.Velocity.{planesOfCall, firstUnseen, answeredWith, outcomeReply, replyOf, planesVerdict, plannedReply, velocityCall}
+use Rattle.planes.specs.Planes.{planesOfCall, firstUnseen}
+use Rattle.avoidance.specs.Velocity.{answeredWith, outcomeReply, replyOf, planesVerdict, plannedReply, velocityCall}
 use Rattle.avoidance.specs.Claims.{AnswerFinite, AnswerIsBinary32, NoMinusZero, RelaxedExactly}
 
 -- where an answer is relaxed

@@ -1,8 +1,5 @@
 -- Laws of the velocity call, beside the proofs of its functions.
-pub mod Planes
-pub mod Passing
 pub mod FitCalls
 pub mod Places
 pub mod Unseen
 pub mod CallLaws
-pub mod FiniteByZero

@@ -8,7 +8,7 @@ use lib.ListN.{length, getD, take, drop, replicate}
 use lib.Ieee.{Float, nan, eq}
 use Rattle.vectors.specs.declared.Vec3.{Vec3}
 use Rattle.vectors.specs.Number.{zero}
-use Rattle.vectors.specs.Vec3.{zeroVec, allZero, finiteVec, IsBinary32}
+use Rattle.vectors.specs.Vec3.{allZero, finiteVec, IsBinary32}
 use Rattle.refusals.specs.declared.Found.the-variants.{At, Nothing}
 use Rattle.refusals.specs.Conditions.{First, some, Lowest}
 use Rattle.solver.specs.declared.Plane.{Plane}
@@ -18,15 +18,15 @@ use Rattle.solver.specs.declared.OnPlane.the-variants as onPlane
 use Rattle.solver.specs.Lent.{numbersOfPlanes}
 use Rattle.solver.specs.ThreeD.{threeD}
 use Rattle.solver.specs.Claims.{ComesTo, infeasibleAt}
-use Rattle.requests.specs.declared.Agent.{Agent}
 use Rattle.requests.specs.declared.Request.{Request}
 use Rattle.requests.specs.declared.Asked.the-variants.{Finite, InRange}
 use Rattle.requests.specs.declared.Reply.{Reply}
 use Rattle.requests.specs.Lent.{agentCount}
-use Rattle.requests.specs.Checks.{badNumber, callNumbers, badFallback}
+use Rattle.requests.specs.Checks.{badNumber, callNumbers}
 use Rattle.requests.specs.Reply.{isAnswered, number, placeOf, velocityOf, relaxedOf, unseenOf}
-use Rattle.avoidance.specs.Neighbour.{planeFor}
-use Rattle.avoidance.specs.Velocity.{planesOfCall, badPlane, velocityCall, scratchAfter}
+use Rattle.planes.specs.Planes.{planesOfCall, badPlane}
+use Rattle.planes.specs.Claims.{zeroNormal}
+use Rattle.avoidance.specs.Velocity.{velocityCall, scratchAfter}
 use Rattle.avoidance.specs.Conditions.{velocityConditions, documentOneConditions, SameInputs}
 use Rattle.avoidance.specs.Examples.{All, examples}
 
@@ -171,16 +171,7 @@ RelaxedExactly =
     → (relaxedOf (velocityCall request neighbours scratchLength) ≡ At k)
     ↔ ((v : Vec3) × (threeD (planesOfCall request neighbours) (request .«max_speed») (sought request) ≡ infeasibleAt k v))
 
--- ---- neighbours that are unseen: document 02's [6]
-
--- With a fallback that the velocity call accepts, a neighbour is unseen exactly where the three numbers of its plane's normal are zeros.
-abbrev pub ZeroNormal : Type 0
-ZeroNormal =
-    (agent neighbour : Agent) (horizon timeStep : Float) (fallback : Vec3) → badFallback fallback ≡ false
-    → planeFor agent neighbour horizon timeStep fallback .unseen ≡ allZero (planeFor agent neighbour horizon timeStep fallback .plane .normal)
-
-abbrev pub zeroNormal : ℕ → Plane → Bool
-zeroNormal neighbour plane = allZero (plane .normal)
+-- ---- neighbours that are unseen: document 02's [6]. `ZeroNormal`, in the Claims.antt of planes, says which they are.
 
 -- Whom a reply names, of neighbours with these planes.
 pub record NamesUnseen (planes : List Plane) (reply : Reply) : Type 0 where

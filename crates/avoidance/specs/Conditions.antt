@@ -14,7 +14,7 @@ use Rattle.solver.specs.Solve.{solve}
 use Rattle.requests.specs.declared.Request.{Request}
 use Rattle.requests.specs.declared.Asked.the-variants.{Finite, InRange}
 use Rattle.requests.specs.Checks.{badNumber, callNumbers, ragged, tooMany, shortScratch, badFallback}
-use Rattle.avoidance.specs.Velocity.{planesOfCall, badPlane}
+use Rattle.planes.specs.Planes.{planesOfCall, badPlane}
 
 unfoldable pub badClamp : Outcome → Bool
 badClamp (Feasible value) = false

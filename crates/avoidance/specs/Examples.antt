@@ -20,7 +20,8 @@ use Rattle.requests.specs.declared.Request.{Request}
 use Rattle.requests.specs.declared.Reply.{Reply}
 use Rattle.requests.specs.declared.Reply.the-variants.{Answered}
 use Rattle.requests.specs.Lent.{agentCount}
-use Rattle.avoidance.specs.Velocity.{planesOfCall, velocityCall}
+use Rattle.planes.specs.Planes.{planesOfCall}
+use Rattle.avoidance.specs.Velocity.{velocityCall}
 
 -- ---- what an example says
 

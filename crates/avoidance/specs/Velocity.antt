@@ -1,8 +1,8 @@
 -- The velocity call: `compute_avoiding_velocity_internal`, the documents' answers 0 to 7, 17 and 18, and what it leaves in scratch.
--- In two parts: planes from neighbours, and then the solver's `solve` of a list of planes.
-use Prim.Native.Nat.{ℕ, zero, suc, _*_}
-use mathlib.Core.Bool.{Bool, not, _&&_, cond}
-use mathlib.Core.List.{List, [], _∷_, _++_}
+-- In two parts: `planes` makes the planes from the neighbours, and then there is the solver's `solve` of them.
+use Prim.Native.Nat.{ℕ, _*_}
+use mathlib.Core.Bool.{cond}
+use mathlib.Core.List.{List, _++_}
 use lib.ListN.{length, drop, replicate}
 use lib.Ieee.{Float}
 use Rattle.vectors.specs.declared.Vec3.{Vec3}
@@ -23,49 +23,9 @@ use Rattle.solver.specs.Solve.{solve}
 use Rattle.requests.specs.declared.Request.{Request}
 use Rattle.requests.specs.declared.Reply.{Reply}
 use Rattle.requests.specs.declared.Reply.the-variants.{Answered, Refused}
-use Rattle.requests.specs.Lent.{perAgent, agentCount}
-use Rattle.avoidance.specs.Lent.{agentAt}
+use Rattle.requests.specs.Lent.{agentCount}
 use Rattle.requests.specs.Checks.{checks}
-use Rattle.avoidance.specs.declared.NeighbourPlane.{NeighbourPlane}
-use Rattle.avoidance.specs.Neighbour.{planeFor}
-
--- ---- planes from neighbours, and which of these are unseen
-
--- for the neighbour in the first numbers of a list
-unfoldable pub planeOf : Request → List Float → NeighbourPlane
-planeOf request xs = planeFor (request .agent) (agentAt xs) (request .horizon) (request .«time_step») (request .fallback)
-
--- something made of each of the first n neighbours of a list of numbers
-unfoldable pub eachFrom : {A : Type 0} → (List Float → A) → ℕ → List Float → List A
-eachFrom f zero xs = []
-eachFrom f (suc n) xs = f xs ∷ eachFrom f n (drop perAgent xs)
-
-abbrev pub planesFrom : Request → ℕ → List Float → List Plane
-planesFrom request n xs = eachFrom (λ (neighbour : List Float). planeOf request neighbour .plane) n xs
-
-abbrev pub unseenFrom : Request → ℕ → List Float → List Bool
-unseenFrom request n xs = eachFrom (λ (neighbour : List Float). planeOf request neighbour .unseen) n xs
-
-unfoldable pub planesOfCall : Request → List Float → List Plane
-planesOfCall request neighbours = planesFrom request (agentCount neighbours) neighbours
-
--- whether each neighbour is unseen
-unfoldable pub unseenOfCall : Request → List Float → List Bool
-unseenOfCall request neighbours = unseenFrom request (agentCount neighbours) neighbours
-
--- the first that is
-abbrev pub isUnseen : ℕ → Bool → Bool
-isUnseen neighbour unseen = unseen
-
-abbrev pub firstUnseen : Request → List Float → Found
-firstUnseen request neighbours = firstBad isUnseen 0 (unseenOfCall request neighbours)
-
-unfoldable pub finitePlane : Plane → Bool
-finitePlane plane = finiteVec (plane .point) && finiteVec (plane .normal)
-
--- a plane is bad wherever it stands in the list
-abbrev pub badPlane : ℕ → Plane → Bool
-badPlane index plane = not (finitePlane plane)
+use Rattle.planes.specs.Planes.{planesOfCall, firstUnseen, badPlane}
 
 -- ---- the answer
 

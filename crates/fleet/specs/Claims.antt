@@ -17,7 +17,8 @@ use Rattle.requests.specs.declared.Asked.the-variants.{Finite}
 use Rattle.requests.specs.Request.{timeStepPlace}
 use Rattle.requests.specs.Checks.{badNumber, neededScratch, fullScratch}
 use Rattle.requests.specs.Reply as reply
-use Rattle.avoidance.specs.Velocity.{planesOfCall, badPlane, velocityCall, scratchAfter}
+use Rattle.planes.specs.Planes.{planesOfCall, badPlane}
+use Rattle.avoidance.specs.Velocity.{velocityCall, scratchAfter}
 use Rattle.avoidance.specs.Conditions.{documentOneConditions, SameInputs}
 use Rattle.records.specs.declared.Record.{Record}
 use Rattle.records.specs.Record.{mostAgents, perRecord, goalWord, blank}

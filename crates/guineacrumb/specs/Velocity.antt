@@ -10,7 +10,7 @@ use Rattle.refusals.specs.declared.Found.{Found}
 use Rattle.refusals.specs.declared.Found.the-variants.{At, Nothing}
 use Rattle.requests.specs.declared.Reply.{Reply}
 use Rattle.requests.specs.Request.{perRequest}
-use Rattle.avoidance.specs.Lent.{requestAt}
+use Rattle.planes.specs.Lent.{requestAt}
 use Rattle.requests.specs.Reply.{number, placeOf, velocityOf, relaxedOf, unseenOf}
 use Rattle.guineacrumb.specs.Unfit.{unfit}
 use Rattle.avoidance.specs.Velocity.{velocityCall, scratchAfter}

@@ -89,6 +89,10 @@ module _ {A : Type 0} (bad : ℕ → A → Bool) where
   unfolding firstHolding marked
   first-none i l is = rw is
 
+  pub first-of-one : (i : ℕ) (x : A) → firstBad bad i (x ∷ []) ≡ cond (bad i x) (At i) Nothing
+  unfolding firstHolding marked
+  first-of-one i x = refl
+
   -- ---- a loop over the list, which has come to the element at `index`
 
   -- that is the first bad one

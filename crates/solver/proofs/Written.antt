@@ -1,11 +1,13 @@
 -- Numbers written to a lent list: a plane's six, and one number everywhere.
 use mathlib.Core.Path.{_≡_, refl, sym, ap, _∙_, subst}
+use mathlib.Core.Bool.{Bool, true, false}
 use mathlib.Core.List.{List, [], _∷_, _++_, append-assoc}
 use Prim.Native.Nat.{ℕ, zero, suc, _+_, _*_, _/_, _≤_, _<_}
 use native.Mathlib.Nat.{le-of-suc-le-suc, not-suc-le-zero}
 use native.Mathlib.Numerals.{add-one}
 use native.Mathlib.Omega.{arith}
-use borrow.Author.Tests.{lt-ltb}
+use borrow.Author.Tests.{ltb-true, lt-ltb}
+use lib.Dec.{ltb}
 use lib.ListN.{length, take, drop, set, replicate, length-set}
 use lib.Seq.{take-set-le, drop-set-lt, drop-at, length-take-le, sets, sets-eq}
 use lib.Ieee.{Float}
@@ -69,6 +71,15 @@ written-read xs at p h =
 pub with-room : (xs : List Float) (index : ℕ) (p : Plane) → index < length xs / 6 → withPlane xs index p ≡ written xs (6 * index) p
 unfolding withPlane
 with-room xs index p h = rw (lt-ltb index (length xs / 6) h) (sym (written-split xs (6 * index) p (omega arith)))
+
+-- room or none, the list stays as long as it was
+pub with-length : (xs : List Float) (index : ℕ) (p : Plane) → length (withPlane xs index p) ≡ length xs
+unfolding withPlane
+with-length xs index p = go (ltb index (length xs / 6)) refl
+  where
+    go : (b : Bool) → ltb index (length xs / 6) ≡ b → length (withPlane xs index p) ≡ length xs
+    go true room = ap length (with-room xs index p (ltb-true index (length xs / 6) room)) ∙ written-length xs (6 * index) p
+    go false none = rw none
 
 -- ---- a list filled from the front
 

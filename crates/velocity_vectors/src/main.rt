@@ -36,8 +36,6 @@ mod scratch;
 
 use answers::Answer;
 use answers::Wanted;
-use avoidance::lent::ReadRequest;
-use avoidance::lent::read_request;
 use avoidance::velocity::velocity;
 use cases::Case;
 use console::Line;
@@ -46,6 +44,8 @@ use console::inputs;
 use judgements::Judgement;
 use keys::Key;
 use lines::Fields;
+use planes::lent::ReadRequest;
+use planes::lent::read_request;
 use report::Tally;
 use report::one_more;
 use requests::Request;

@@ -24,7 +24,8 @@ use Rattle.requests.specs.Checks.{mostNeighbours, checks}
 use Rattle.requests.specs.Reply.{number, placeOf}
 use Rattle.requests.proofs.checks.CallNumbers.{FitRequest, FitNeighbours}
 use Rattle.requests.proofs.checks.FitChecks.{FitVerdict, fit-checks}
-use Rattle.avoidance.specs.Velocity.{planesOfCall, badPlane, firstUnseen, answeredWith, outcomeReply, replyOf, planesVerdict, plannedReply, velocityCall}
+use Rattle.planes.specs.Planes.{planesOfCall, badPlane, firstUnseen}
+use Rattle.avoidance.specs.Velocity.{answeredWith, outcomeReply, replyOf, planesVerdict, plannedReply, velocityCall}
 
 pub data FitReply (reply : Reply) : Type 0 where
   isAnswer : number reply ≡ 0 → FitReply reply

@@ -40,9 +40,10 @@ use Rattle.requests.specs.Checks.{badNumber, callNumbers, checks}
 use Rattle.requests.specs.Reply.{number, placeOf}
 use Rattle.requests.proofs.ReplyLaws.{GivenBy, settled-gives}
 use Rattle.requests.proofs.checks.Says.{checks-give, lowest-number}
-use Rattle.avoidance.specs.Velocity.{planeOf, planesOfCall, badPlane, firstUnseen, answeredWith, outcomeReply, replyOf, planesVerdict, plannedReply, velocityCall, plannedScratch, scratchAfter}
+use Rattle.planes.specs.Planes.{planesOfCall, badPlane, firstUnseen}
+use Rattle.planes.proofs.writing.EachMade.{planes-many}
+use Rattle.avoidance.specs.Velocity.{answeredWith, outcomeReply, replyOf, planesVerdict, plannedReply, velocityCall, plannedScratch, scratchAfter}
 use Rattle.avoidance.specs.Claims.{sought, Placed, PlacesByAnswer, ScratchLeft, ScratchByAnswer}
-use Rattle.avoidance.proofs.velocity.Planes.{from-length}
 
 -- ---- what holds of each refusal
 
@@ -185,8 +186,7 @@ module _ (request : Request) (neighbours scratch : List Float) where
   -- ---- its parts
 
   flat : length (numbersOfPlanes planes) ≡ 6 * many
-  unfolding planesOfCall
-  flat = flat-length planes ∙ ap (λ (n : ℕ). 6 * n) (from-length (λ (neighbour : List Float). planeOf request neighbour .plane) many neighbours)
+  flat = flat-length planes ∙ ap (λ (n : ℕ). 6 * n) (planes-many request neighbours)
 
   zeros-many : (n : ℕ) → length (replicate n zero) ≡ n
   zeros-many n = length-replicate n zero

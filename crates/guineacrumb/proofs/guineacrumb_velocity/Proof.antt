@@ -9,10 +9,10 @@ use borrow.Author.Needs.{needs}
 use borrow.Author.Tests.{eq-eqb, ne-eqb}
 use denote.Ref.{now}
 use Rattle.requests.specs.declared.Request.{Request}
-use Rattle.avoidance.specs.declared.lent.ReadRequest.the-variants.{Is, BadLength}
+use Rattle.planes.specs.declared.lent.ReadRequest.the-variants.{Is, BadLength}
 use Rattle.requests.specs.Request.{perRequest}
-use Rattle.avoidance.specs.Lent.{requestAt, readRequest}
-use Rattle.avoidance.proofs.lent.RequestLaws.{not-read, is-read}
+use Rattle.planes.specs.Lent.{requestAt, readRequest}
+use Rattle.planes.proofs.lent.RequestLaws.{not-read, is-read}
 use Rattle.guineacrumb.specs.Velocity.{fits, replyTo, answer, scratchLeft, velocityLeft, placeLeft, relaxedLeft, unseenLeft}
 use Rattle.guineacrumb.proofs.guineacrumb_velocity.Statement.{statement}
 use Rattle.guineacrumb.proofs.guineacrumb_velocity.Tie as tie

@@ -12,7 +12,7 @@ use Rattle.vectors.specs.Number.{zero}
 use Rattle.solver.specs.declared.Plane.{Plane}
 use Rattle.solver.specs.declared.Solution.{Solution}
 use Rattle.refusals.specs.declared.Found.{Found}
-use Rattle.refusals.specs.Conditions.{firstBad}
+use Rattle.refusals.specs.declared.Refusal.the-variants.{PlaneNotFinite}
 use Rattle.solver.specs.Lent.{planesOf, numbersOfPlanes}
 use Rattle.solver.specs.FourD.{halfCleared}
 use Rattle.solver.specs.Solve.{solve}
@@ -20,10 +20,13 @@ use Rattle.solver.proofs.four_d.Scratch.{cleared-length}
 use Rattle.solver.proofs.LentPlanes.{flat-read, half-cleared}
 use Rattle.requests.specs.declared.Request.{Request}
 use Rattle.requests.specs.declared.Reply.{Reply}
-use Rattle.avoidance.specs.declared.velocity.Made.the-variants.{Finite}
-use Rattle.avoidance.specs.parts.Velocity.{madeOf}
-use Rattle.avoidance.specs.Velocity.{planesOfCall, unseenOfCall, badPlane, firstUnseen, replyOf, planesVerdict, plannedReply, plannedScratch}
-use Rattle.avoidance.proofs.velocity.Planes.{from-length, none-made, one-made}
+use Rattle.requests.specs.declared.Reply.the-variants.{Refused}
+use Rattle.requests.specs.Lent.{agentCount}
+use Rattle.planes.specs.declared.Made.the-variants.{Finite, NotFinite}
+use Rattle.planes.specs.Planes.{planesOfCall, planesMade, planesWritten}
+use Rattle.planes.proofs.writing.EachMade.{planes-many, made-finite, made-not-finite}
+use Rattle.planes.proofs.writing.WrittenPlanes.{planes-length, all-written}
+use Rattle.avoidance.specs.Velocity.{replyOf, planesVerdict, plannedReply, plannedScratch}
 use Rattle.avoidance.proofs.velocity.planned.Statement.{statement}
 use Rattle.avoidance.proofs.velocity.planned.Tie as tie
 
@@ -46,35 +49,44 @@ module _ (n : ℕ) (planes : List Plane) (xs ys : List Float) (is : length xs �
       half-cleared n planes (drop (6 * n) xs) ys count-is many stands
       ∙ ap (λ (zs : List Float). numbersOfPlanes planes ++ replicate (6 * n) zero ++ zs) (drop-of-length-le ys (le-of-eq (same ∙ is)) ∙ sym (drop-of-length-le xs (le-of-eq is)))
 
--- the answer where every plane is finite
-all-finite : (request : Request) (neighbours : List Float) (unseen : Found) → Finite unseen ≡ madeOf (firstBad badPlane 0 (planesOfCall request neighbours)) (firstUnseen request neighbours)
-    → plannedReply request neighbours ≡ replyOf (solve (planesOfCall request neighbours) (request .«max_speed») (request .preferred)) unseen
-unfolding plannedReply planesVerdict
-all-finite request neighbours unseen made = let (none, first) = none-made (firstBad badPlane 0 (planesOfCall request neighbours)) (firstUnseen request neighbours) unseen made in rw (none, first)
+-- what making the planes came to, and what it left in scratch
+module _ (request : Request) (neighbours xs ys : List Float) (is : length xs ≡ 12 * agentCount neighbours) (left : ys ≡ planesWritten (planesOfCall request neighbours) xs) where
+  same : length ys ≡ length xs
+  same = ap length left ∙ planes-length (planesOfCall request neighbours) xs
 
-planes-many : (c : tie.After-reply-of)
-    → let start = c .before .before .before .before .before .before .before .before .before .before .before .before .before .before in
-    length (planesOfCall (start .args .request) (now (start .args .neighbours))) ≡ length (now (start .args .neighbours)) / 8
-unfolding planesOfCall
-planes-many c = from-length _ _ _
+  -- every plane is finite
+  module _ (unseen : Found) (made : Finite unseen ≡ planesMade request neighbours) where
+    stands : ys ≡ numbersOfPlanes (planesOfCall request neighbours) ++ drop (6 * agentCount neighbours) xs
+    stands =
+        let many = planes-many request neighbours in
+        left ∙ all-written (planesOfCall request neighbours) xs (made-finite request neighbours unseen made .0) (omega (arith, many, is)) ∙ ap (λ (n : ℕ). numbersOfPlanes (planesOfCall request neighbours) ++ drop (6 * n) xs) many
 
-planes-stand : (c : tie.After-reply-of)
-    → let start = c .before .before .before .before .before .before .before .before .before .before .before .before .before .before in
-    c .before .before .before .before .before .before .before .before .before .before .write-planes .last .0 ≡ numbersOfPlanes (planesOfCall (start .args .request) (now (start .args .neighbours))) ++ drop (6 * (length (now (start .args .neighbours)) / 8)) (now (start .args .scratch))
-unfolding planesOfCall
-planes-stand c = c .before .before .before .before .before .before .before .before .before .before .write-planes .ensures .stands _ (c .before .before .before .before .before .before .unseen .given .1)
+    solved : plannedReply request neighbours ≡ replyOf (solve (planesOfCall request neighbours) (request .«max_speed») (request .preferred)) unseen
+    unfolding plannedReply planesVerdict
+    solved = let (none, first) = made-finite request neighbours unseen made in rw (none, first)
+
+    read-back : planesOf (length ys / 12) ys ≡ planesOfCall request neighbours
+    read-back = planes-are (agentCount neighbours) (planesOfCall request neighbours) xs ys is (planes-many request neighbours) same stands
+
+    cleared : halfCleared ys ≡ numbersOfPlanes (planesOfCall request neighbours) ++ replicate (6 * agentCount neighbours) zero ++ drop (12 * agentCount neighbours) xs
+    cleared = half-is (agentCount neighbours) (planesOfCall request neighbours) xs ys is (planes-many request neighbours) same stands
+
+  -- one is not
+  refused : (neighbour : ℕ) → NotFinite neighbour ≡ planesMade request neighbours → plannedReply request neighbours ≡ Refused (PlaneNotFinite neighbour)
+  unfolding plannedReply planesVerdict
+  refused neighbour made = rw (made-not-finite request neighbours neighbour made)
 
 replied-is : (c : tie.After-reply-of)
     → let start = c .before .before .before .before .before .before .before .before .before .before .before .before .before .before in
     c .reply-of .result ≡ plannedReply (start .args .request) (now (start .args .neighbours))
-unfolding planesOfCall unseenOfCall
 replied-is c =
     let start = c .before .before .before .before .before .before .before .before .before .before .before .before .before .before in
     let wrote = c .before .before .before .before .before .before .before .before .before .before .write-planes .ensures in
     let told = c .before .before .before .before .before .before .unseen .given in
+    let made = sym (told .1) ∙ wrote .0 in
     c .reply-of .ensures
-    ∙ ap (λ (solution : Solution). replyOf solution (told .0 .0)) (c .before .before .before .solve .ensures .0 ∙ ap (λ (ps : List Plane). solve ps (start .args .request .«max_speed») (start .args .request .preferred)) (planes-are _ _ _ _ (start .pre) (planes-many c) (wrote .same-length) (planes-stand c)))
-    ∙ sym (all-finite (start .args .request) (now (start .args .neighbours)) (told .0 .0) (sym (told .1) ∙ wrote .made))
+    ∙ ap (λ (solution : Solution). replyOf solution (told .0 .0)) (c .before .before .before .solve .ensures .0 ∙ ap (λ (ps : List Plane). solve ps (start .args .request .«max_speed») (start .args .request .preferred)) (read-back _ _ _ _ (start .pre) (wrote .1) (told .0 .0) made))
+    ∙ sym (solved _ _ _ _ (start .pre) (wrote .1) (told .0 .0) made)
 
 solved-scratch : (c : tie.After-reply-of)
     → let start = c .before .before .before .before .before .before .before .before .before .before .before .before .before .before in
@@ -82,10 +94,12 @@ solved-scratch : (c : tie.After-reply-of)
     c .before .before .before .solve .last .0 ≡ numbersOfPlanes (planesOfCall (start .args .request) (now (start .args .neighbours))) ++ replicate (6 * n) zero ++ drop (12 * n) (now (start .args .scratch))
 solved-scratch c =
     let start = c .before .before .before .before .before .before .before .before .before .before .before .before .before .before in
-    c .before .before .before .solve .ensures .1 ∙ half-is _ _ _ _ (start .pre) (planes-many c) (c .before .before .before .before .before .before .before .before .before .before .write-planes .ensures .same-length) (planes-stand c)
+    let wrote = c .before .before .before .before .before .before .before .before .before .before .write-planes .ensures in
+    let told = c .before .before .before .before .before .before .unseen .given in
+    c .before .before .before .solve .ensures .1 ∙ cleared _ _ _ _ (start .pre) (wrote .1) (told .0 .0) (sym (told .1) ∙ wrote .0)
 
 write-planes-requires : tie.Need-write-planes-requires
-write-planes-requires c κs = omega (arith, c .before .before .before .pre)
+write-planes-requires c κs = search needs
 
 enum-known-unseen : tie.Need-enum-known-unseen
 enum-known-unseen c = search needs
@@ -100,16 +114,15 @@ same-length : tie.Need-same-length
 same-length c = search needs
 
 returns : tie.Need-returns
-unfolding plannedReply planesVerdict planesOfCall unseenOfCall plannedScratch
+unfolding plannedScratch
 returns c =
     let called = c .before .before .before .before .before .before .before .before .before in
     let start = called .before .before .before .before in
     let wrote = called .write-planes .ensures in
-    let told = c .before .before .before .before .before .neighbour .given in
-    let request = start .args .request in
-    let neighbours = now (start .args .neighbours) in
-    let found = one-made (firstBad badPlane 0 (planesOfCall request neighbours)) (firstUnseen request neighbours) (told .0 .0) (sym (told .1) ∙ wrote .made) in
-    (rw found, c .before .before .clear .ensures ∙ all-zero _ (now (start .args .scratch)) (called .write-planes .last .0) (start .pre) (wrote .same-length))
+    let told = c .before .before .before .before .before .neighbour .given in (
+      sym (refused _ _ _ _ (start .pre) (wrote .1) (told .0 .0) (sym (told .1) ∙ wrote .0)),
+      c .before .before .clear .ensures ∙ all-zero _ (now (start .args .scratch)) (called .write-planes .last .0) (start .pre) (same _ _ _ _ (start .pre) (wrote .1)),
+    )
 
 solve-requires : tie.Need-solve-requires
 solve-requires c κs = search needs
@@ -131,7 +144,8 @@ unfolding plannedScratch
 returns-2 c =
     let replied = c .before .before .before .before .before .before in
     let start = replied .before .before .before .before .before .before .before .before .before .before .before .before .before .before in
-    let solved-length = ap length (solved-scratch replied) ∙ ap length (sym (half-is _ _ _ _ (start .pre) (planes-many replied) (replied .before .before .before .before .before .before .before .before .before .before .write-planes .ensures .same-length) (planes-stand replied))) ∙ cleared-length _ ∙ replied .before .before .before .before .before .before .before .before .before .before .write-planes .ensures .same-length in (
+    let wrote = replied .before .before .before .before .before .before .before .before .before .before .write-planes .ensures in
+    let solved-length = ap length (replied .before .before .before .solve .ensures .1) ∙ cleared-length _ ∙ same _ _ _ _ (start .pre) (wrote .1) in (
       replied-is replied,
       c .before .before .clear2 .ensures ∙ all-zero _ (now (start .args .scratch)) (replied .before .before .before .solve .last .0) (start .pre) solved-length ∙ ap (λ (r : Reply). plannedScratch r (length (now (start .args .neighbours)) / 8) (planesOfCall (start .args .request) (now (start .args .neighbours))) (now (start .args .scratch))) (sym (c .before .before .before .before .enum-told .given .1)),
     )

@@ -16,7 +16,8 @@ use Rattle.requests.specs.declared.Reply.{Reply}
 use Rattle.requests.specs.declared.Reply.the-variants.{Answered, Refused}
 use Rattle.requests.specs.Checks.{checks}
 use Rattle.requests.proofs.checks.Passed.{passed-fits}
-use Rattle.avoidance.specs.Velocity.{planesOfCall, velocityCall, plannedScratch, scratchAfter}
+use Rattle.planes.specs.Planes.{planesOfCall}
+use Rattle.avoidance.specs.Velocity.{velocityCall, plannedScratch, scratchAfter}
 use Rattle.avoidance.proofs.velocity.velocity.Statement.{statement}
 use Rattle.avoidance.proofs.velocity.velocity.Tie as tie
 

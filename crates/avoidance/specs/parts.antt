@@ -1,4 +1,0 @@
--- What private functions promise each other: nobody has to believe it.
-pub mod Stages
-pub mod Groups
-pub mod Velocity

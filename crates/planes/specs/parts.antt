@@ -1,0 +1,4 @@
+-- What private functions promise each other: nobody has to believe it.
+pub mod Stages
+pub mod Groups
+pub mod Writing
