@@ -2,4 +2,3 @@
 pub mod EachMade
 pub mod WrittenPlanes
 pub mod Passing
-pub mod FiniteByZero

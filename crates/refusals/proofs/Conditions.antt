@@ -89,9 +89,13 @@ module _ {A : Type 0} (bad : ℕ → A → Bool) where
   unfolding firstHolding marked
   first-none i l is = rw is
 
-  pub first-of-one : (i : ℕ) (x : A) → firstBad bad i (x ∷ []) ≡ cond (bad i x) (At i) Nothing
+  -- a list that is written out, element by element
+  pub first-of : (i : ℕ) (x : A) (xs : List A) → firstBad bad i (x ∷ xs) ≡ cond (bad i x) (At i) (firstBad bad (suc i) xs)
   unfolding firstHolding marked
-  first-of-one i x = refl
+  first-of i x xs = refl
+
+  pub first-of-one : (i : ℕ) (x : A) → firstBad bad i (x ∷ []) ≡ cond (bad i x) (At i) Nothing
+  first-of-one i x = first-of i x [] ∙ ap (cond (bad i x) (At i)) (first-none (suc i) [] refl)
 
   -- ---- a loop over the list, which has come to the element at `index`
 

@@ -3,4 +3,5 @@ pub mod Truth
 pub mod NotANumber
 pub mod Product
 pub mod Finite
+pub mod FiniteByZero
 pub mod Stored

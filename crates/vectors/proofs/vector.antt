@@ -1,2 +1,3 @@
 -- Laws of vectors, beside the proofs of their methods.
 pub mod NotZero
+pub mod ByLength

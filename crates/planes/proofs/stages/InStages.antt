@@ -5,8 +5,9 @@ use lib.Ieee.{Float}
 use Rattle.vectors.specs.declared.Vec3.{Vec3}
 use Rattle.vectors.specs.declared.Normalized.the-variants.{Scaled, Zeros}
 use Rattle.vectors.specs.Number.{_⊕_, _⊘_, _>ᶠ_, zero, one, finite}
-use Rattle.vectors.specs.Vec3.{zeroVec, _-ᵥ_, _*ᵥ_, _/ᵥ_, length, lengthRecip, lengthSquared, normalizeOrZero, vectorOf, isZeros}
+use Rattle.vectors.specs.Vec3.{zeroVec, _-ᵥ_, _*ᵥ_, _/ᵥ_, lengthSquared, normalizeOrZero, vectorOf, isZeros}
 use Rattle.vectors.specs.Root.{root}
+use Rattle.vectors.proofs.vector.ByLength.{recip-is, normalized-is}
 use Rattle.requests.specs.declared.Agent.{Agent}
 use Rattle.planes.specs.declared.neighbour.Relation.{Relation}
 use Rattle.planes.specs.declared.neighbour.Projection.{Projection}
@@ -28,16 +29,16 @@ scaleOf : Vec3 → Float
 scaleOf v = one ⊘ root (lengthSquared v)
 
 normal-is : (v : Vec3) → cond (usable (scaleOf v)) (v *ᵥ scaleOf v) zeroVec ≡ vectorOf (normalizeOrZero v)
-unfolding scaleOf usable normalizeOrZero lengthRecip length lengthSquared
-normal-is v = let s = scaleOf v in sym (over-cond vectorOf (finite s && s >ᶠ zero) (Scaled (v *ᵥ s)) Zeros)
+unfolding scaleOf usable
+normal-is v = let s = scaleOf v in rw (normalized-is v, recip-is v) (sym (over-cond vectorOf (finite s && s >ᶠ zero) (Scaled (v *ᵥ s)) Zeros))
 
 unseen-is : (v : Vec3) → cond (usable (scaleOf v)) false true ≡ isZeros (normalizeOrZero v)
-unfolding scaleOf usable normalizeOrZero lengthRecip length lengthSquared
-unseen-is v = let s = scaleOf v in sym (over-cond isZeros (finite s && s >ᶠ zero) (Scaled (v *ᵥ s)) Zeros)
+unfolding scaleOf usable
+unseen-is v = let s = scaleOf v in rw (normalized-is v, recip-is v) (sym (over-cond isZeros (finite s && s >ᶠ zero) (Scaled (v *ᵥ s)) Zeros))
 
 collision-normal-is : (v fallback : Vec3) → cond (usable (scaleOf v)) (v *ᵥ scaleOf v) fallback ≡ collisionNormal v fallback
-unfolding scaleOf usable collisionNormal lengthRecip length lengthSquared
-collision-normal-is v fallback = refl
+unfolding scaleOf usable collisionNormal
+collision-normal-is v fallback = rw (recip-is v)
 
 -- ---- each part of the obstacle
 

@@ -1,6 +1,6 @@
 -- The sum of all six times 0 is a zero exactly where the definition's tests pass.
 use Rattle.planes.specs.Planes.{finitePlane}
-use Rattle.planes.proofs.writing.FiniteByZero.{both-finite}
+use Rattle.vectors.proofs.FiniteByZero.{both-finite}
 use Rattle.planes.proofs.writing.is_finite_plane.Statement.{statement}
 use Rattle.planes.proofs.writing.is_finite_plane.Tie as tie
 

@@ -4,7 +4,8 @@ use mathlib.Core.Bool.{true, false, false≢true}
 use borrow.Author.Needs.{needs}
 use Rattle.vectors.specs.Number.{_<ᶠ_, _>ᶠ_, zero}
 use Rattle.refusals.specs.declared.Found.the-variants.{Nothing}
-use Rattle.refusals.specs.Conditions.{firstHolding, marked, firstBad}
+use Rattle.refusals.specs.Conditions.{firstBad}
+use Rattle.refusals.proofs.Conditions.{first-of, first-none}
 use Rattle.requests.specs.declared.Request.{Request}
 use Rattle.requests.specs.declared.Asked.the-variants.{InRange}
 use Rattle.requests.specs.Checks.{badNumber, outside, callKind}
@@ -15,8 +16,8 @@ use Rattle.requests.proofs.checks.own_in_range.Tie as tie
 in-range : (request : Request) → (request .agent .radius <ᶠ zero ≡ false) × (request .agent .responsibility <ᶠ zero ≡ false)
     → request .«max_speed» <ᶠ zero ≡ false → request .«time_step» >ᶠ zero ≡ true → request .horizon >ᶠ zero ≡ true
     → firstBad (badNumber InRange) 0 (requestNumbers request) ≡ Nothing
-unfolding firstHolding marked requestNumbers badNumber outside callKind
-in-range request own speed step horizon = rw (own .0, own .1, speed, step, horizon)
+unfolding requestNumbers badNumber outside callKind
+in-range request own speed step horizon = simp (first-of (badNumber InRange), first-none (badNumber InRange), own .0, own .1, speed, step, horizon)
 
 is-negative-requires : tie.Need-is-negative-requires
 is-negative-requires c κs = search needs
