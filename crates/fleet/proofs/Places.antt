@@ -16,17 +16,18 @@ use Rattle.refusals.specs.declared.Refusal.the-variants as refusal
 use Rattle.refusals.specs.declared.Verdict.{Verdict}
 use Rattle.refusals.specs.declared.Verdict.the-variants.{Passed, Refused}
 use Rattle.refusals.specs.Refusal as refusals
-use Rattle.refusals.specs.Conditions.{firstHolding, marked, firstBad}
+use Rattle.refusals.specs.Conditions.{firstBad}
 use Rattle.refusals.specs.Verdict.{_⊳_, refusedIf, refusedAt}
-use Rattle.refusals.proofs.Conditions.{found-lowest}
+use Rattle.refusals.proofs.Conditions.{first-of, first-none, found-lowest}
 use Rattle.refusals.proofs.Verdicts.{Gives, gives-then, gives-held, gives-found}
 use Rattle.requests.specs.declared.Reply.{Reply}
 use Rattle.requests.specs.declared.Asked.the-variants.{Finite}
 use Rattle.requests.specs.Request.{timeStepPlace}
 use Rattle.requests.specs.Checks.{badNumber}
 use Rattle.requests.specs.Reply as reply
-use Rattle.requests.specs.Reply.{nameOf, renamed}
+use Rattle.requests.specs.Reply.{renamed}
 use Rattle.requests.proofs.ReplyLaws.{renamed-number, renamed-place, bad-plane-renamed}
+use Rattle.requests.proofs.checks.CallNumbers.{bad-if-not-finite}
 use Rattle.avoidance.proofs.velocity.Places.{places-by-answer}
 use Rattle.records.specs.declared.Record.{Record}
 use Rattle.records.specs.Record.{goalWord, mostAgents}
@@ -120,8 +121,8 @@ step-gives fleet timeStep rule = go (finite timeStep) (timeStep >ᶠ zero32)
 
 -- a goal's fault is the lowest of its components that is not finite
 goal-first : (v : Vec3) → goalFault v ≡ firstBad (badNumber Finite) goalWord (v .x ∷ v .y ∷ v .z ∷ [])
-unfolding goalFault firstHolding marked badNumber
-goal-first v = go (finite (v .x)) (finite (v .y)) (finite (v .z))
+unfolding goalFault
+goal-first v = simp (first-of (badNumber Finite), first-none (badNumber Finite), bad-if-not-finite) (go (finite (v .x)) (finite (v .y)) (finite (v .z)))
   where
     go : (a b c : Bool) → cond a (cond b (cond c Nothing (At (goalWord + 2))) (At (goalWord + 1))) (At goalWord) ≡ cond (not a) (At 8) (cond (not b) (At 9) (cond (not c) (At 10) Nothing))
     go true true true = refl
@@ -159,7 +160,6 @@ module _ (fleet : Fleet) (timeStep : Float) (rule : Rule) (is : fleet .tick ≡ 
   OfPlan n place = Placed fleet (Call.plan index scratch) n place
 
   reply-placed : OfPlan (reply.number (renamed names replied)) (reply.placeOf (renamed names replied))
-  unfolding nameOf
   reply-placed = go (eqb (reply.number replied) 6) refl
     where
       go : (b : Bool) → eqb (reply.number replied) 6 ≡ b → OfPlan (reply.number (renamed names replied)) (reply.placeOf (renamed names replied))

@@ -7,6 +7,7 @@ use mathlib.Core.Logic.{_↔_}
 use Prim.Native.Nat.{ℕ, suc}
 use native.Mathlib.Omega.{arith}
 use lib.Dec.{eqb}
+use lib.ListN.{getD}
 use borrow.Author.Tests.{eqb-true}
 use Rattle.vectors.proofs.Truth.{no-truth}
 use Rattle.refusals.specs.declared.Found.{Found}
@@ -118,7 +119,7 @@ renamed-place names (Refused r) other = go (eqb (refusals.number r) 6) refl
     go false is = refl
 
 -- and 6 does
-pub bad-plane-renamed : (names : List ℕ) (reply : Reply) → number reply ≡ 6 → placeOf (renamed names reply) ≡ nameOf names (placeOf reply)
-unfolding renamed renamedRefusal
+pub bad-plane-renamed : (names : List ℕ) (reply : Reply) → number reply ≡ 6 → placeOf (renamed names reply) ≡ getD names (placeOf reply) 0
+unfolding renamed renamedRefusal nameOf
 bad-plane-renamed names (Answered course) e = absurd (omega (arith, e))
 bad-plane-renamed names (Refused why) e = rw e

@@ -1,6 +1,6 @@
 -- The numbers of a velocity call that are fit for it, and that where all but the preferred velocity are, no other number is bad.
 use mathlib.Core.Path.{_≡_, refl, ap, _∙_}
-use mathlib.Core.Bool.{true, false, cond}
+use mathlib.Core.Bool.{true, false, not, cond}
 use mathlib.Core.List.{List, [], _∷_, _++_}
 use Prim.Native.Nat.{ℕ, zero, suc, _+_, _-_, _*_, _%_, _<_}
 use native.Mathlib.Omega.{arith}
@@ -27,6 +27,11 @@ use Rattle.requests.specs.Request.{preferredPlace, maxSpeedPlace, timeSt
 use Rattle.requests.specs.Checks.{callKind, outside, badNumber, firstOf, badFallback}
 use Rattle.requests.proofs.AgentNumbers.{numbers-many}
 use Rattle.requests.proofs.Ranges.{never-outside}
+
+-- a number that is asked whether it is finite, wherever it stands
+pub bad-if-not-finite : (place : ℕ) (x : Float) → badNumber Finite place x ≡ not (finite x)
+unfolding badNumber
+bad-if-not-finite place x = refl
 
 -- ---- fit numbers
 
