@@ -6,9 +6,9 @@ use native.Mathlib.Omega.{arith}
 use lib.ListN.{length, take, drop, replicate, length-take, length-drop, length-append, take-append-drop}
 use lib.Seq.{take-append-le, drop-append-le, take-at, take-append-seam}
 use Rattle.records.specs.declared.Record.{Record}
+use Rattle.planner.proofs.Lists.{take-taken}
 use Rattle.fleet.specs.declared.Tick.{Tick}
 use Rattle.fleet.specs.declared.Fleet.{Fleet}
-use Rattle.fleet.proofs.Lists.{take-taken}
 use Rattle.records.specs.Record.{blank}
 use Rattle.fleet.specs.Table.{agents, standingOf, holdingNothing}
 

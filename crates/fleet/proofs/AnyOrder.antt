@@ -23,15 +23,16 @@ use Rattle.vectors.specs.declared.Vec3.{Vec3}
 use Rattle.vectors.specs.Number.{zero as zero32}
 use Rattle.vectors.proofs.Truth.{no-truth, both}
 use Rattle.refusals.specs.declared.Verdict.{Verdict}
-use Rattle.requests.specs.declared.Reply.{Reply}
 use Rattle.requests.specs.Checks.{fullScratch}
 use Rattle.requests.specs.Reply.{renamed}
 use Rattle.avoidance.proofs.velocity.CallLaws.{enough-scratch}
 use Rattle.records.specs.declared.Record.{Record}
 use Rattle.records.specs.Record.{mostAgents}
 use Rattle.records.specs.Checks.{indexAmong}
+use Rattle.planner.specs.declared.Rule.{Rule}
+use Rattle.planner.specs.Plan.{requestFor, ownRecord, neighbourIndices, neighboursOf, replyFor}
+use Rattle.planner.proofs.Replies.{reply-is}
 use Rattle.fleet.specs.declared.Answer.{Answer}
-use Rattle.fleet.specs.declared.Rule.{Rule}
 use Rattle.fleet.specs.declared.Held.the-variants.{Nothing}
 use Rattle.fleet.specs.declared.Slot.{Slot}
 use Rattle.fleet.specs.declared.Tick.the-variants.{Open}
@@ -39,7 +40,7 @@ use Rattle.fleet.specs.declared.Fleet.{Fleet}
 use Rattle.fleet.specs.Answer.{number}
 use Rattle.fleet.specs.Table.{agents, nothingHeld, holdingNothing, fleetOf, settled}
 use Rattle.fleet.specs.Tick.{openVerdict, openCall, withHeld, goalsTaken, ended, hasPlan, arrivals, allMoved, closeVerdict}
-use Rattle.fleet.specs.Plan.{requestFor, ownRecord, neighbourIndices, neighboursOf, replyFor, planIn, planCall}
+use Rattle.fleet.specs.Plan.{planIn, planCall}
 use Rattle.fleet.specs.Calls.{Call, step}
 use Rattle.fleet.specs.Runs.{after, run, accepted, stays, staysOpen, goalIn, goalsOf, goalCalls, inOrder, canonical}
 use Rattle.fleet.specs.Claims.{WholeFleet, openedOn, InTick, PlansStand, DemandThree, AnyOrderDropped, PlanRepeated, OrderUnseen, AnsweredInTurn, RefusedUnseen}
@@ -279,12 +280,13 @@ pub any-order-dropped : AnyOrderDropped
 any-order-dropped fleet timeStep rule calls made = (plans-stand fleet timeStep rule calls made, dropped-there fleet timeStep rule calls made)
 
 pub plan-repeated : PlanRepeated
-unfolding replyFor
 plan-repeated fleet timeStep rule calls others made made′ index scratch again enough enough′ =
     let rs = agents fleet in
     plan-there fleet timeStep rule calls made index scratch
-    ∙ ap (λ (r : Reply). answerBy (indexAmong (length rs) index) (renamed (neighbourIndices rule rs index) r))
-    (enough-scratch (requestFor (ownRecord rs index) timeStep) (neighboursOf rule rs index) (length scratch) (length again) enough enough′)
+    ∙ ap (answerBy (indexAmong (length rs) index))
+    (reply-is timeStep rule rs index (length scratch)
+    ∙ ap (renamed (neighbourIndices rule rs index)) (enough-scratch (requestFor (ownRecord rs index) timeStep) (neighboursOf rule rs index) (length scratch) (length again) enough enough′)
+    ∙ sym (reply-is timeStep rule rs index (length again)))
     ∙ sym (plan-there fleet timeStep rule others made′ index again)
 
 -- the order, the number and the scratch of plans do not show: only the accepted goal calls do

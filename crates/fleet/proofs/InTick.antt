@@ -29,9 +29,12 @@ use Rattle.avoidance.specs.Velocity.{velocityCall}
 use Rattle.records.specs.declared.Record.{Record}
 use Rattle.records.specs.Record.{mostAgents, blank}
 use Rattle.records.specs.Checks.{indexAmong}
+use Rattle.planner.specs.declared.Rule.{Rule}
+use Rattle.planner.specs.Plan.{requestFor, ownRecord, neighbourIndices, neighboursOf, replyFor}
+use Rattle.planner.proofs.Kept.{enough-scratch}
+use Rattle.planner.proofs.Replies.{reply-is}
 use Rattle.fleet.specs.declared.Answer.{Answer}
 use Rattle.fleet.specs.declared.Answer.the-variants as answer
-use Rattle.fleet.specs.declared.Rule.{Rule}
 use Rattle.fleet.specs.declared.Held.the-variants.{Nothing, Vector}
 use Rattle.fleet.specs.declared.Slot.{Slot}
 use Rattle.fleet.specs.declared.Tick.the-variants.{Open}
@@ -41,11 +44,10 @@ use Rattle.fleet.specs.Table.{agents, nothingHeld, standingOf, settled, 
 use Rattle.fleet.specs.Load.{loadVerdict, loadCall}
 use Rattle.fleet.specs.Save.{saveCall}
 use Rattle.fleet.specs.Tick.{openVerdict, openCall, goalVerdict, withHeld, holdGoal, goalSet, goalCall, ended, hasPlan, unplanned, astray, arrivals, allMoved, closeVerdict, closeOpen, closeIn, closeCall, opened, dropCall}
-use Rattle.fleet.specs.Plan.{requestFor, ownRecord, neighbourIndices, neighboursOf, replyFor, plansAfter, fleetAfter, answeredBy, planOpen, planIn, planCall}
+use Rattle.fleet.specs.Plan.{plansAfter, fleetAfter, answeredBy, planOpen, planIn, planCall}
 use Rattle.fleet.specs.Calls.{Call, step}
 use Rattle.fleet.specs.Runs.{after, accepted, stays, staysOpen, goalIn, goalsOf}
 use Rattle.fleet.proofs.Verdicts.{settled-passes}
-use Rattle.fleet.proofs.Kept.{enough-scratch}
 use Rattle.fleet.proofs.HeldGoals.{slot, holdAll, hold-append, passes, allFit, fit-append}
 use Rattle.fleet.proofs.Refusals.{refused-unchanged}
 
@@ -109,18 +111,18 @@ module _ (rs : List Record) (timeStep : Float) (rule : Rule) (few : length rs �
   -- a plan that is answered
   pub one-planned : (plans goals : List Slot) (index k : ℕ) → index < length rs → isAnswered (callFor index k) ≡ true
       → planOpen timeStep rule (state plans goals) index k .fleet ≡ state (withHeld plans index (due index)) goals
-  unfolding planOpen answeredBy replyFor fleetAfter plansAfter state
+  unfolding planOpen answeredBy fleetAfter plansAfter state
   one-planned plans goals index k there answered =
       let names = neighbourIndices rule rs index in
       let same : velocityOf (callFor index k) ≡ due index = ap velocityOf (sym (same-answer index k fullScratch there (omega arith) answered)) in
-      rw (there-passed plans goals index there, agents-are plans goals, renamed-answered names (callFor index k), answered, renamed-velocity names (callFor index k), same)
+      rw (there-passed plans goals index there, agents-are plans goals, reply-is timeStep rule rs index k, renamed-answered names (callFor index k), answered, renamed-velocity names (callFor index k), same)
 
   -- and one that is refused
   one-refused : (plans goals : List Slot) (index k : ℕ) → index < length rs → isAnswered (callFor index k) ≡ false
       → planOpen timeStep rule (state plans goals) index k .fleet ≡ state plans goals
-  unfolding planOpen answeredBy replyFor fleetAfter plansAfter state
+  unfolding planOpen answeredBy fleetAfter plansAfter state
   one-refused plans goals index k there refused =
-      rw (there-passed plans goals index there, agents-are plans goals, renamed-answered (neighbourIndices rule rs index) (callFor index k), refused)
+      rw (there-passed plans goals index there, agents-are plans goals, reply-is timeStep rule rs index k, renamed-answered (neighbourIndices rule rs index) (callFor index k), refused)
 
   none-there : (plans goals : List Slot) (index k : ℕ) → length rs ≤ index → planOpen timeStep rule (state plans goals) index k .fleet ≡ state plans goals
   unfolding planOpen answeredBy hasAgent

@@ -18,7 +18,8 @@ use Rattle.refusals.proofs.Verdicts.{not-passed, both-passed}
 use Rattle.requests.specs.declared.Reply.{Reply}
 use Rattle.records.specs.declared.Record.{Record}
 use Rattle.records.specs.Record.{mostAgents}
-use Rattle.fleet.specs.declared.Rule.{Rule}
+use Rattle.planner.specs.declared.Rule.{Rule}
+use Rattle.planner.specs.Plan.{replyFor}
 use Rattle.fleet.specs.declared.Slot.{Slot}
 use Rattle.fleet.specs.declared.Tick.{Tick}
 use Rattle.fleet.specs.declared.Tick.the-variants.{Shut, Open}
@@ -27,7 +28,7 @@ use Rattle.fleet.specs.declared.Fleet.{Fleet}
 use Rattle.fleet.specs.Answer.{number}
 use Rattle.fleet.specs.Table.{agents, nothingHeld, standingOf, holdingNothing, fleetOf, settled, shut, hasAgent}
 use Rattle.fleet.specs.Tick.{stepVerdict, openVerdict, openCall, ended, closeCall, opened, dropCall}
-use Rattle.fleet.specs.Plan.{replyFor, fleetAfter, answeredBy, planOpen, planIn, planCall}
+use Rattle.fleet.specs.Plan.{fleetAfter, answeredBy, planOpen, planIn, planCall}
 use Rattle.fleet.specs.Calls.{Call, step}
 use Rattle.fleet.specs.Runs.{after, goalCalls, inOrder, canonical}
 use Rattle.fleet.proofs.Agents.{agents-holding}

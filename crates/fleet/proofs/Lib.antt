@@ -3,7 +3,6 @@ pub mod Lists
 pub mod Agents
 pub mod Verdicts
 pub mod Each
-pub mod Kept
 pub mod LoadRead
 pub mod HeldGoals
 pub mod Refusals

@@ -1,23 +1,12 @@
--- Laws on lists: an element that is there, the first elements, a list that is filled or written element by element, and what holds of every element.
-use mathlib.Core.Path.{_≡_, refl, sym, ap, _∙_}
+-- Laws on lists: a list that is filled or written element by element, two that agree as far as they are read, and what holds of every element.
+use mathlib.Core.Path.{_≡_, refl, ap, _∙_}
 use mathlib.Core.List.{List, [], _∷_, _++_, append-assoc, append-nil}
 use Prim.Native.Nat.{ℕ, zero, suc, _+_, _-_, _≤_, _<_}
 use native.Mathlib.Nat.{not-suc-le-zero, le-of-suc-le-suc, zero-lt-suc}
 use native.Mathlib.Numerals.{add-one}
 use native.Mathlib.Omega.{arith}
-use lib.ListN.{length, getD, take, drop, set, replicate, take-append-drop}
-use lib.Seq.{take-suc-set, take-all, take-append-seam, append-snoc}
-
--- what stands for an element past the end does not show in one that is there
-pub getD-there : {A : Type 0} (l : List A) (i : ℕ) (d e : A) → i < length l → getD l i d ≡ getD l i e
-getD-there [] i d e h = absurd (not-suc-le-zero h)
-getD-there (x ∷ xs) zero d e h = refl
-getD-there (x ∷ xs) (suc i) d e h = getD-there xs i d e (le-of-suc-le-suc h)
-
--- as many as there are of the first n are the first n
-pub take-taken : {A : Type 0} (n : ℕ) (l : List A) → take (length (take n l)) l ≡ take n l
-take-taken {A} n l =
-    ap (λ (whole : List A). take (length (take n l)) whole) (sym (take-append-drop n l)) ∙ take-append-seam (take n l) (drop n l)
+use lib.ListN.{length, getD, take, drop, set, replicate}
+use lib.Seq.{take-suc-set, take-all, append-snoc}
 
 -- the first elements of a list, and then one that fills it up to n
 abbrev pub filled : {A : Type 0} → ℕ → A → ℕ → List A → List A

@@ -34,8 +34,10 @@ use Rattle.records.specs.Record.{goalWord, mostAgents}
 use Rattle.records.specs.Checks.{indexAmong, recordVerdict}
 use Rattle.records.specs.File.{fileVerdict}
 use Rattle.records.proofs.Places.{gives-tested, record-places, file-places}
+use Rattle.planner.specs.declared.Rule.{Rule}
+use Rattle.planner.specs.Plan.{neighbourIndices, replyFor}
+use Rattle.planner.proofs.Replies.{reply-is}
 use Rattle.fleet.specs.declared.Answer.{Answer}
-use Rattle.fleet.specs.declared.Rule.{Rule}
 use Rattle.fleet.specs.declared.Held.the-variants as held
 use Rattle.fleet.specs.declared.Tick.{Tick}
 use Rattle.fleet.specs.declared.Tick.the-variants.{Shut, Open}
@@ -45,7 +47,7 @@ use Rattle.fleet.specs.Table.{agents, settled, shut, hasAgent, room, add
 use Rattle.fleet.specs.Load.{loadVerdict, loadCall}
 use Rattle.fleet.specs.Save.{shortBuffer, saveVerdict, saveCall}
 use Rattle.fleet.specs.Tick.{stepVerdict, openVerdict, openCall, goalFault, goalVerdict, goalCall, unplanned, astray, arrivals, closeVerdict, closeOpen, closeIn, closeCall, opened, dropCall}
-use Rattle.fleet.specs.Plan.{neighbourIndices, replyFor, answeredBy, planOpen, planIn, planCall}
+use Rattle.fleet.specs.Plan.{answeredBy, planOpen, planIn, planCall}
 use Rattle.fleet.specs.Calls.{Call, step}
 use Rattle.fleet.specs.Claims.{planRequest, planNeighbours, planReply, Placed, AnswerPlaces}
 
@@ -174,14 +176,14 @@ module _ (fleet : Fleet) (timeStep : Float) (rule : Rule) (is : fleet .tick ≡ 
           (subst (OfPlan (reply.number replied)) (sym (renamed-place names replied other)) (Placed.plan-passes timeStep rule index scratch is other))
 
   answered-placed : (v : Verdict) → Gives (Of fleet (Call.plan index scratch)) v
-      → Answers fleet (Call.plan index scratch) (answeredBy v fleet index (renamed names replied) .answer)
+      → Answers fleet (Call.plan index scratch) (answeredBy v fleet index (replyFor timeStep rule (agents fleet) index (length scratch)) .answer)
   unfolding answeredBy
-  answered-placed Passed gives = reply-placed
+  answered-placed Passed gives = subst (λ (r : Reply). OfPlan (reply.number r) (reply.placeOf r)) (sym (reply-is timeStep rule (agents fleet) index (length scratch))) reply-placed
   answered-placed (Refused why) gives = gives
 
 plan-placed : (fleet : Fleet) (index : ℕ) (scratch : List Float) (tick : Tick) → fleet .tick ≡ tick
     → Answers fleet (Call.plan index scratch) (planIn tick fleet index (length scratch) .answer)
-unfolding planIn planOpen replyFor
+unfolding planIn planOpen
 plan-placed fleet index scratch Shut is = settled-placed fleet (Call.plan index scratch) (Refused refusal.NoTick) fleet (Placed.of-11 (Call.plan index scratch))
 plan-placed fleet index scratch (Open timeStep rule) is =
     answered-placed fleet timeStep rule is index scratch (hasAgent fleet index) (agent-gives fleet (Call.plan index scratch) index (Placed.plan-8 index scratch))

@@ -43,6 +43,8 @@ use Rattle.records.specs.Checks.{indexAmong, recordVerdict}
 use Rattle.records.specs.File.{fileVerdict}
 use Rattle.records.specs.Conditions.{recordConditions, fileConditions}
 use Rattle.records.proofs.Refusals.{record-says, file-says, among-says}
+use Rattle.planner.specs.Plan.{requestFor, ownRecord, neighbourIndices, neighboursOf}
+use Rattle.planner.proofs.Replies.{reply-is}
 use Rattle.fleet.specs.declared.Answer.{Answer}
 use Rattle.fleet.specs.declared.Answer.the-variants as answer
 use Rattle.fleet.specs.declared.Slot.{Slot}
@@ -54,7 +56,7 @@ use Rattle.fleet.specs.Table.{agents, settled, shut, hasAgent, room, add
 use Rattle.fleet.specs.Load.{loadVerdict, loadCall}
 use Rattle.fleet.specs.Save.{shortBuffer, saveVerdict, saveCall}
 use Rattle.fleet.specs.Tick.{stepVerdict, openCall, goalFault, goalVerdict, goalCall, unplanned, astray, arrivals, openVerdict, closeVerdict, closeOpen, closeIn, closeCall, opened, dropCall}
-use Rattle.fleet.specs.Plan.{requestFor, ownRecord, neighbourIndices, neighboursOf, replyFor, plansAfter, fleetAfter, answeredBy, planOpen, planIn, planCall}
+use Rattle.fleet.specs.Plan.{plansAfter, fleetAfter, answeredBy, planOpen, planIn, planCall}
 use Rattle.fleet.specs.Calls.{Call, step, isOpen, noAgent, planConditions, closeConditions, callConditions}
 use Rattle.fleet.specs.Claims.{RefusedExactly, AnsweredExactly, SameInputsRefused, RefusedZeros, RefusedUnchanged}
 use Rattle.fleet.proofs.Verdicts.{settled-kept}
@@ -147,13 +149,13 @@ answered-says v fleet index r cs ds e f = first v ∙ ap (λ (found : Found). or
     first (Refused r′) = refl
 
 plan-says : (tick : Tick) (fleet : Fleet) (index k : ℕ) → refusalIn (planIn tick fleet index k .answer) ≡ firstHolding (planConditions velocityConditions tick fleet index k)
-unfolding planIn planOpen planConditions replyFor
+unfolding planIn planOpen planConditions
 plan-says Shut fleet index k = settled-says (Refused refusal.NoTick) fleet fleet ((11, true) ∷ []) (held-says true refusal.NoTick)
 plan-says (Open timeStep rule) fleet index k =
     let asked = requestFor (ownRecord (agents fleet) index) timeStep in
     let neighbours = neighboursOf rule (agents fleet) index in
     answered-says (hasAgent fleet index) fleet index _ ((8, noAgent fleet index) ∷ []) (velocityConditions asked neighbours k) (agent-says fleet index)
-    (renamed-refused (neighbourIndices rule (agents fleet) index) (velocityCall asked neighbours k) ∙ by-conditions asked neighbours k)
+    (ap refusedWith (reply-is timeStep rule (agents fleet) index k) ∙ renamed-refused (neighbourIndices rule (agents fleet) index) (velocityCall asked neighbours k) ∙ by-conditions asked neighbours k)
 
 close-call-says : (tick : Tick) (fleet : Fleet) → refusalIn (closeIn tick fleet .answer) ≡ firstHolding (closeConditions tick fleet)
 unfolding closeIn closeOpen closeConditions

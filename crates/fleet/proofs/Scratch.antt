@@ -13,16 +13,19 @@ use Rattle.refusals.specs.declared.Refusal.the-variants.{NoAgent}
 use Rattle.refusals.specs.declared.Verdict.the-variants.{Passed, Refused}
 use Rattle.requests.specs.declared.Request.{Request}
 use Rattle.requests.specs.Checks.{neededScratch}
+use Rattle.requests.specs.Reply as reply
 use Rattle.requests.proofs.ReplyLaws.{renamed-number}
 use Rattle.avoidance.specs.Velocity.{scratchAfter}
 use Rattle.avoidance.proofs.velocity.Places as call
-use Rattle.fleet.specs.declared.Rule.{Rule}
+use Rattle.planner.specs.declared.Rule.{Rule}
+use Rattle.planner.specs.Plan.{neighbourIndices, replyFor, replyScratch}
+use Rattle.planner.proofs.Replies.{reply-is, scratch-is}
 use Rattle.fleet.specs.declared.Tick.{Tick}
 use Rattle.fleet.specs.declared.Tick.the-variants.{Shut, Open}
 use Rattle.fleet.specs.declared.Fleet.{Fleet}
 use Rattle.fleet.specs.Answer.{number}
 use Rattle.fleet.specs.Table.{agents, hasAgent}
-use Rattle.fleet.specs.Plan.{neighbourIndices, replyFor, replyScratch, answeredBy, planOpen, planIn, planCall, scratchOf, scratchOpen, scratchIn, planScratch}
+use Rattle.fleet.specs.Plan.{answeredBy, planOpen, planIn, planCall, scratchOf, scratchOpen, scratchIn, planScratch}
 use Rattle.fleet.specs.Calls.{Call, step}
 use Rattle.fleet.specs.Claims.{_∈_, planRequest, planNeighbours, planReply, ScratchByAnswer}
 
@@ -62,32 +65,33 @@ module _ (fleet : Fleet) (index : ℕ) (scratch : List Float) (timeStep : Float)
   answered = number (planOpen timeStep rule fleet index (length scratch) .answer)
 
   open-left : left ≡ call.leftBy asked neighbours scratch answered
-  unfolding scratchOpen scratchOf planOpen answeredBy hasAgent replyFor replyScratch
+  unfolding scratchOpen scratchOf planOpen answeredBy hasAgent
   open-left = go (ltb index (length (agents fleet)))
     where
       go : (there : Bool)
-          → scratchOf (cond there Passed (Refused (NoAgent index))) scratch (scratchAfter asked neighbours scratch)
+          → scratchOf (cond there Passed (Refused (NoAgent index))) scratch (replyScratch timeStep rule (agents fleet) index scratch)
           ≡ call.leftBy asked neighbours scratch (number (answeredBy (cond there Passed (Refused (NoAgent index))) fleet index (replyFor timeStep rule (agents fleet) index (length scratch)) .answer))
       go true =
-          call.scratch-left asked neighbours scratch
-          ∙ ap (λ (n : ℕ). call.leftBy asked neighbours scratch n) (sym (renamed-number (neighbourIndices rule (agents fleet) index) (planReply fleet timeStep rule index scratch)))
+          scratch-is timeStep rule (agents fleet) index scratch
+          ∙ call.scratch-left asked neighbours scratch
+          ∙ ap (λ (n : ℕ). call.leftBy asked neighbours scratch n) (sym (ap reply.number (reply-is timeStep rule (agents fleet) index (length scratch)) ∙ renamed-number (neighbourIndices rule (agents fleet) index) (planReply fleet timeStep rule index scratch)))
       go false = refl
 
   open-planes : answered ≡ 0 → left ≡ scratchAfter asked neighbours scratch
-  unfolding scratchOpen scratchOf planOpen answeredBy hasAgent replyScratch
+  unfolding scratchOpen scratchOf planOpen answeredBy hasAgent
   open-planes = go (ltb index (length (agents fleet)))
     where
       go : (there : Bool) → number (answeredBy (cond there Passed (Refused (NoAgent index))) fleet index (replyFor timeStep rule (agents fleet) index (length scratch)) .answer) ≡ 0
-          → scratchOf (cond there Passed (Refused (NoAgent index))) scratch (scratchAfter asked neighbours scratch) ≡ scratchAfter asked neighbours scratch
-      go true e = refl
+          → scratchOf (cond there Passed (Refused (NoAgent index))) scratch (replyScratch timeStep rule (agents fleet) index scratch) ≡ scratchAfter asked neighbours scratch
+      go true e = scratch-is timeStep rule (agents fleet) index scratch
       go false e = absurd (omega (arith, e))
 
   open-past : drop (neededScratch neighbours) left ≡ drop (neededScratch neighbours) scratch
-  unfolding scratchOpen scratchOf hasAgent replyScratch
+  unfolding scratchOpen scratchOf hasAgent
   open-past = go (ltb index (length (agents fleet)))
     where
-      go : (there : Bool) → drop (neededScratch neighbours) (scratchOf (cond there Passed (Refused (NoAgent index))) scratch (scratchAfter asked neighbours scratch)) ≡ drop (neededScratch neighbours) scratch
-      go true = call.scratch-by-answer asked neighbours scratch .past
+      go : (there : Bool) → drop (neededScratch neighbours) (scratchOf (cond there Passed (Refused (NoAgent index))) scratch (replyScratch timeStep rule (agents fleet) index scratch)) ≡ drop (neededScratch neighbours) scratch
+      go true = ap (drop (neededScratch neighbours)) (scratch-is timeStep rule (agents fleet) index scratch) ∙ call.scratch-by-answer asked neighbours scratch .past
       go false = refl
 
 -- ---- a plan

@@ -20,7 +20,8 @@ use Rattle.records.specs.Record.{mostAgents, perRecord, blank, withGoal}
 use Rattle.records.specs.Checks.{indexAmong, recordVerdict}
 use Rattle.records.specs.File.{recordsOf, fileVerdict}
 use Rattle.records.proofs.Decoding.{few-records, record-words, record-passes}
-use Rattle.fleet.specs.declared.Rule.{Rule}
+use Rattle.planner.specs.declared.Rule.{Rule}
+use Rattle.planner.specs.Plan.{replyFor}
 use Rattle.fleet.specs.declared.Slot.{Slot}
 use Rattle.fleet.specs.declared.Tick.{Tick}
 use Rattle.fleet.specs.declared.Tick.the-variants.{Shut, Open}
@@ -29,7 +30,7 @@ use Rattle.fleet.specs.Table.{agents, standingOf, holdingNothing, fleetO
 use Rattle.fleet.specs.Load.{loadVerdict, loaded, loadCall}
 use Rattle.fleet.specs.Save.{saveCall}
 use Rattle.fleet.specs.Tick.{stepVerdict, openVerdict, openCall, goalVerdict, holdGoal, goalSet, goalCall, goalTaken, goalsTaken, ended, movedBy, allMoved, closeVerdict, closeOpen, closeIn, closeCall, dropCall}
-use Rattle.fleet.specs.Plan.{replyFor, fleetAfter, answeredBy, planOpen, planIn, planCall}
+use Rattle.fleet.specs.Plan.{fleetAfter, answeredBy, planOpen, planIn, planCall}
 use Rattle.fleet.specs.Calls.{Call, step}
 use Rattle.fleet.specs.Runs.{after}
 use Rattle.fleet.specs.Sound.{Stored, Ticking, Sound}

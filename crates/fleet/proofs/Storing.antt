@@ -12,7 +12,7 @@ use Rattle.vectors.specs.declared.Vec3.{Vec3}
 use Rattle.vectors.specs.Number.{finite}
 use Rattle.vectors.specs.Vec3.{_*ᵥ_, zeroVec, finiteVec, IsBinary32}
 use Rattle.vectors.proofs.Finite.{finite-whole}
-use Rattle.vectors.proofs.Stored.{sum-is, difference-is}
+use Rattle.vectors.proofs.Stored.{sum-is}
 use Rattle.refusals.specs.declared.Found.the-variants as found
 use Rattle.refusals.specs.declared.Refusal.the-variants.{NotFinite, Unplanned, PositionNotFinite}
 use Rattle.refusals.specs.declared.Verdict.the-variants.{Passed}
@@ -26,16 +26,18 @@ use Rattle.requests.proofs.ReplyLaws.{renamed-answered, renamed-velocity}
 use Rattle.avoidance.specs.Velocity.{velocityCall}
 use Rattle.avoidance.proofs.Velocities.{answer-finite, answer-is-binary32}
 use Rattle.records.specs.declared.Record.{Record}
-use Rattle.records.specs.Record.{mostAgents, goalWord, blank, positionOf, goalOf, withGoal}
+use Rattle.records.specs.Record.{mostAgents, goalWord, blank, positionOf, withGoal}
 use Rattle.records.specs.Checks.{indexAmong}
 use Rattle.records.proofs.Kept.{goal-words, moved-words, goal-passes, moved-passes}
-use Rattle.fleet.specs.declared.Rule.{Rule}
+use Rattle.planner.specs.declared.Rule.{Rule}
+use Rattle.planner.specs.Plan.{requestFor, ownRecord, neighbourIndices, neighboursOf, replyFor}
+use Rattle.planner.proofs.Replies.{reply-is, preferred-is-binary32}
 use Rattle.fleet.specs.declared.Held.{Held}
 use Rattle.fleet.specs.declared.Held.the-variants.{Nothing, Vector}
 use Rattle.fleet.specs.declared.Slot.{Slot}
 use Rattle.fleet.specs.Table.{nothingHeld}
 use Rattle.fleet.specs.Tick.{goalFault, goalVerdict, withHeld, goalTaken, goalsTaken, unplanned, arrival, astray, movedBy, arrivals, allMoved, closeVerdict}
-use Rattle.fleet.specs.Plan.{requestFor, ownRecord, neighbourIndices, neighboursOf, replyFor, plansAfter}
+use Rattle.fleet.specs.Plan.{plansAfter}
 use Rattle.fleet.specs.Sound.{Stored, Storable, AllStorable}
 use Rattle.fleet.proofs.Lists.{Every, every-set}
 use Rattle.fleet.proofs.Each.{each-at, each-length, each-every}
@@ -84,15 +86,14 @@ goal-storable count index v passed is =
 -- a velocity that is answered
 answer-storable : (timeStep : Float) (rule : Rule) (rs : List Record) (index k : ℕ) → isAnswered (replyFor timeStep rule rs index k) ≡ true
     → Storable (Vector (velocityOf (replyFor timeStep rule rs index k)))
-unfolding replyFor requestFor
 answer-storable timeStep rule rs index k answered =
     let names = neighbourIndices rule rs index in
-    let own = ownRecord rs index in
-    let request = requestFor own timeStep in
+    let request = requestFor (ownRecord rs index) timeStep in
     let neighbours = neighboursOf rule rs index in
     let call = velocityCall request neighbours k in
-    subst (λ (v : Vec3). Storable (Vector v)) (sym (renamed-velocity names call))
-    (answer-finite request neighbours k (sym (renamed-answered names call) ∙ answered), answer-is-binary32 request neighbours k (difference-is (goalOf own) (positionOf own)))
+    let is = reply-is timeStep rule rs index k in
+    subst (λ (v : Vec3). Storable (Vector v)) (sym (ap velocityOf is ∙ renamed-velocity names call))
+    (answer-finite request neighbours k (sym (ap isAnswered is ∙ renamed-answered names call) ∙ answered), answer-is-binary32 request neighbours k (preferred-is-binary32 (ownRecord rs index) timeStep))
 
 pub plans-storable : (timeStep : Float) (rule : Rule) (rs : List Record) (index k : ℕ) (plans : List Slot) → AllStorable plans
     → AllStorable (plansAfter plans index (replyFor timeStep rule rs index k))

@@ -14,7 +14,8 @@ use Rattle.requests.specs.declared.Request.{Request}
 use Rattle.avoidance.specs.Conditions.{velocityConditions}
 use Rattle.records.specs.Record.{mostAgents}
 use Rattle.records.specs.Conditions.{recordConditions, fileConditions}
-use Rattle.fleet.specs.declared.Rule.{Rule}
+use Rattle.planner.specs.declared.Rule.{Rule}
+use Rattle.planner.specs.Plan.{requestFor, ownRecord, neighboursOf}
 use Rattle.fleet.specs.declared.Tick.{Tick}
 use Rattle.fleet.specs.declared.Tick.the-variants.{Shut, Open}
 use Rattle.fleet.specs.declared.Fleet.{Fleet}
@@ -23,7 +24,7 @@ use Rattle.fleet.specs.Table.{agents, addCall, putCall, removeCall, read
 use Rattle.fleet.specs.Load.{loadCall}
 use Rattle.fleet.specs.Save.{shortBuffer, saveCall}
 use Rattle.fleet.specs.Tick.{unplanned, astray, arrivals, openCall, goalCall, closeCall, dropCall}
-use Rattle.fleet.specs.Plan.{requestFor, ownRecord, neighboursOf, planCall}
+use Rattle.fleet.specs.Plan.{planCall}
 
 -- ---- calls
 

@@ -25,9 +25,10 @@ use Rattle.records.specs.Record.{mostAgents, perRecord, goalWord, blank}
 use Rattle.records.specs.File.{recordBytes, wordIn, wordsIn}
 use Rattle.records.specs.Reader.{handedAt}
 use Rattle.records.specs.Claims.{PlacedRecord, PlacedFile, Each, Below, WholeRecord}
+use Rattle.planner.specs.declared.Rule.{Rule}
+use Rattle.planner.specs.Plan.{requestFor, ownRecord, neighbourIndices, neighboursOf, replyFor}
 use Rattle.fleet.specs.declared.Answer.{Answer}
 use Rattle.fleet.specs.declared.Answer.the-variants as answer
-use Rattle.fleet.specs.declared.Rule.{Rule}
 use Rattle.fleet.specs.declared.Held.the-variants.{Nothing}
 use Rattle.fleet.specs.declared.Tick.the-variants.{Shut, Open}
 use Rattle.fleet.specs.declared.Fleet.{Fleet}
@@ -36,7 +37,7 @@ use Rattle.fleet.specs.Table.{agents, fleetOf, readCall}
 use Rattle.fleet.specs.Load.{loadCall}
 use Rattle.fleet.specs.Save.{savedBytes, neededBytes, bufferAfter}
 use Rattle.fleet.specs.Tick.{unplanned, astray, arrivals}
-use Rattle.fleet.specs.Plan.{requestFor, ownRecord, neighbourIndices, neighboursOf, replyFor, planScratch}
+use Rattle.fleet.specs.Plan.{planScratch}
 use Rattle.fleet.specs.Calls.{Call, step, planConditions, callConditions}
 use Rattle.fleet.specs.Runs.{after, run, accepted, staysOpen, goalsOf, goalCalls, canonical}
 use Rattle.fleet.specs.Sound.{Sound, Resting, Typed, AllTyped, PassesOn}

@@ -9,4 +9,3 @@ pub mod Calls
 pub mod Runs
 pub mod Sound
 pub mod Claims
-pub mod parts

@@ -18,7 +18,7 @@ use Rattle.requests.specs.Request.{timeStepPlace}
 use Rattle.records.specs.declared.Record.{Record}
 use Rattle.records.specs.Record.{goalWord, blank, positionOf, withGoal, movedTo}
 use Rattle.records.specs.Checks.{indexAmong}
-use Rattle.fleet.specs.declared.Rule.{Rule}
+use Rattle.planner.specs.declared.Rule.{Rule}
 use Rattle.fleet.specs.declared.Held.{Held}
 use Rattle.fleet.specs.declared.Held.the-variants.{Nothing, Vector}
 use Rattle.fleet.specs.declared.Slot.{Slot}

@@ -8,6 +8,7 @@ pub mod saving;
 pub mod table;
 pub mod ticks;
 
+use planner::Rule;
 use records::MOST_AGENTS;
 use records::RECORD_WORDS;
 use records::Record;
@@ -21,14 +22,6 @@ pub enum Answer {
     Done,
     Plan(Reply),
     Refused(Refusal),
-}
-
-// Which others a plan keeps as neighbours, and so avoids. `Near` keeps those that can touch within the horizon, and is
-// the rule of a hangar. `Source` is the Rust's, kept to be compared with it: it avoids the far ones and SKIPS THE NEAR
-// ONES. Nobody is to fly by it.
-pub enum Rule {
-    Source,
-    Near,
 }
 
 // The tick that is open, if one is, as it was opened.

@@ -9,12 +9,12 @@ ghost use Rattle.fleet.specs.Tick.{stepVerdict, openVerdict, openCall, g
 use super::Called;
 use super::Fleet;
 use super::Held;
-use super::Rule;
 use super::Slot;
 use super::Tick;
 use super::table::done;
 use super::table::holding_nothing;
 use super::table::refused;
+use planner::Rule;
 use records::GOAL_WORD;
 use records::MOST_AGENTS;
 use records::Record;

@@ -10,7 +10,7 @@ use lib.ListN.{length}
 use lib.Ieee.{Float}
 use Rattle.vectors.proofs.Truth.{no-truth}
 use Rattle.requests.specs.Checks.{fullScratch}
-use Rattle.fleet.specs.declared.Rule.{Rule}
+use Rattle.planner.specs.declared.Rule.{Rule}
 use Rattle.fleet.specs.declared.Fleet.{Fleet}
 use Rattle.fleet.specs.declared.Called.{Called}
 use Rattle.fleet.specs.Table.{agents, fleetOf}

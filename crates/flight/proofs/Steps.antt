@@ -7,7 +7,7 @@ use lib.Ieee.{Float}
 use borrow.Author.Tests.{eqb-true, eq-eqb, ne-eqb, not-false}
 use Rattle.vectors.proofs.Truth.{no-truth}
 use Rattle.requests.specs.Checks.{fullScratch}
-use Rattle.fleet.specs.declared.Rule.{Rule}
+use Rattle.planner.specs.declared.Rule.{Rule}
 use Rattle.fleet.specs.declared.Fleet.{Fleet}
 use Rattle.fleet.specs.declared.Called.{Called}
 use Rattle.fleet.specs.Answer.{number}

@@ -7,7 +7,7 @@ use lib.Dec.{eqb}
 use lib.ListN.{length}
 use lib.Ieee.{Float}
 use Rattle.requests.specs.Checks.{fullScratch}
-use Rattle.fleet.specs.declared.Rule.{Rule}
+use Rattle.planner.specs.declared.Rule.{Rule}
 use Rattle.fleet.specs.declared.Fleet.{Fleet}
 use Rattle.fleet.specs.declared.Called.{Called}
 use Rattle.fleet.specs.declared.Answer.the-variants.{Done}

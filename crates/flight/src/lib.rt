@@ -10,7 +10,7 @@ ghost use Rattle.flight.specs.Tick.{isRefused, unlessRefused, firstPlann
 use fleet::Answer;
 use fleet::Called;
 use fleet::Fleet;
-use fleet::Rule;
+use planner::Rule;
 use requests::FULL_SCRATCH;
 
 fn is_refused(last: Called) -> bool

@@ -4,8 +4,8 @@ use mathlib.Core.Bool.{cond}
 use mathlib.Core.List.{List}
 use lib.Dec.{eqb}
 use lib.Ieee.{Float}
-use Rattle.fleet.specs.declared.Rule.{Rule}
-use Rattle.fleet.specs.declared.Rule.the-variants.{Source, Near}
+use Rattle.planner.specs.declared.Rule.{Rule}
+use Rattle.planner.specs.declared.Rule.the-variants.{Source, Near}
 use Rattle.fleet.specs.Answer.{number, placeOf}
 use Rattle.flight.specs.Tick.{fileFlown, fileAfter}
 use Rattle.guineacrumb.specs.Unfit.{unfit}

@@ -9,9 +9,9 @@ ghost use Rattle.flight.specs.Tick.{fileFlown, fileAfter};
 ghost use Rattle.guineacrumb.specs.Version.{version};
 ghost use Rattle.guineacrumb.specs.Tick.{tickAnswer, fileLeft, tickPlaceLeft};
 ghost use Rattle.guineacrumb.specs.Velocity.{componentsOf, orNone, answer, scratchLeft, velocityLeft, placeLeft, relaxedLeft, unseenLeft};
-use fleet::Rule;
 use planes::lent::ReadRequest;
 use planes::lent::read_request;
+use planner::Rule;
 use refusals::Found;
 use vectors::Vec3;
 

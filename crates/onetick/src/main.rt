@@ -13,9 +13,9 @@ use console::arguments;
 use console::inputs;
 use console::output;
 use fleet::Fleet;
-use fleet::Rule;
 use flight::file_flown;
 use libc::STDIN_FILENO;
+use planner::Rule;
 use refusals::Refusal;
 
 // The words of a record that are printed: its position and its velocity.

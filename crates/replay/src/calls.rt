@@ -1,6 +1,6 @@
 // A call: its kind, and what it takes of its 22 words. Words that a kind does not take are not looked at, but for
 // the length of scratch, which is held to its limit in every call.
-use fleet::Rule;
+use planner::Rule;
 use records::RECORD_WORDS;
 use vectors::Vec3;
 use vectors::number::from_word;

@@ -1,8 +1,8 @@
 -- Each rule's number gives the tick by that rule, and any other leaves what was lent as it was.
 use mathlib.Core.Path.{_≡_, sym, ap, _∙_}
 use Prim.Native.Nat.{ℕ}
-use Rattle.fleet.specs.declared.Rule.{Rule}
-use Rattle.fleet.specs.declared.Rule.the-variants.{Source, Near}
+use Rattle.planner.specs.declared.Rule.{Rule}
+use Rattle.planner.specs.declared.Rule.the-variants.{Source, Near}
 use Rattle.guineacrumb.specs.Tick.{byRule, tickAnswer, fileLeft, tickPlaceLeft}
 use borrow.Author.Tests.{eq-eqb, ne-eqb}
 use borrow.Author.Needs.{needs}

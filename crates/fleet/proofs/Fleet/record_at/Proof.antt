@@ -6,8 +6,8 @@ use lib.ListN.{length, length-take, List·getD-eq-default}
 use lib.Seq.{getD-take}
 use borrow.Author.Needs.{needs}
 use Rattle.records.specs.Record.{blank}
+use Rattle.planner.proofs.Lists.{getD-there}
 use Rattle.fleet.specs.Table.{agents}
-use Rattle.fleet.proofs.Lists.{getD-there}
 use Rattle.fleet.proofs.Fleet.record_at.Statement.{statement}
 use Rattle.fleet.proofs.Fleet.record_at.Tie as tie
 

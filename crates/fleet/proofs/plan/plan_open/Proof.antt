@@ -9,8 +9,9 @@ use denote.Ref.{now}
 use borrow.Author.Tests.{lt-ltb, le-ltb}
 use Rattle.refusals.specs.declared.Verdict.the-variants.{Passed}
 use Rattle.records.specs.declared.Record.{Record}
+use Rattle.planner.specs.Plan.{replyFor, replyScratch}
 use Rattle.fleet.specs.Table.{agents, settled, hasAgent}
-use Rattle.fleet.specs.Plan.{replyFor, replyScratch, answeredBy, planOpen, scratchOf, scratchOpen}
+use Rattle.fleet.specs.Plan.{answeredBy, planOpen, scratchOf, scratchOpen}
 use Rattle.fleet.proofs.Agents.{agents-are}
 use borrow.Author.Needs.{needs}
 use Rattle.fleet.proofs.plan.plan_open.Statement.{statement}
@@ -31,7 +32,7 @@ returns c =
     (rw none (c .refused .ensures), rw none)
 
 reply-for-requires : tie.Need-reply-for-requires
-reply-for-requires c κs = (c .before .before .before .agent-count .ensures .1, c .before .before .if1 .left)
+reply-for-requires c κs = search needs
 
 answered-requires : tie.Need-answered-requires
 answered-requires c κs =

@@ -1,8 +1,8 @@
 -- The request, a field at a time from the record.
-use Rattle.fleet.specs.Plan.{requestFor}
+use Rattle.planner.specs.Plan.{requestFor}
 use borrow.Author.Needs.{needs}
-use Rattle.fleet.proofs.plan.request_for.Statement.{statement}
-use Rattle.fleet.proofs.plan.request_for.Tie as tie
+use Rattle.planner.proofs.plan.request_for.Statement.{statement}
+use Rattle.planner.proofs.plan.request_for.Tie as tie
 
 agent-requires : tie.Need-agent-requires
 agent-requires c κs = search needs

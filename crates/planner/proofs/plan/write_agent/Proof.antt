@@ -5,8 +5,8 @@ use native.Mathlib.Numerals.{add-one}
 use native.Mathlib.Omega.{arith}
 use Rattle.requests.proofs.AgentNumbers.{numbers-are}
 use borrow.Author.Needs.{needs}
-use Rattle.fleet.proofs.plan.write_agent.Statement.{statement}
-use Rattle.fleet.proofs.plan.write_agent.Tie as tie
+use Rattle.planner.proofs.plan.write_agent.Statement.{statement}
+use Rattle.planner.proofs.plan.write_agent.Tie as tie
 
 mul-numbers : tie.Need-mul-numbers
 mul-numbers c = search needs

@@ -1,23 +1,24 @@
 -- The velocity call is asked what the definition asks, on the neighbours that the walk found, and names them by their table indices.
-use mathlib.Core.Path.{_≡_, sym, _∙_}
+-- The count in range takes the same records as the one that was given.
+use mathlib.Core.Path.{_≡_, sym, ap, _∙_}
 use mathlib.Core.List.{List}
-use Prim.Native.Nat.{ℕ, _*_, _≤_, _<_}
+use Prim.Native.Nat.{ℕ, _*_, _≤_}
 use native.Mathlib.Omega.{arith}
 use lib.Ieee.{Float}
 use lib.ListN.{length, take, length-map}
-use lib.Seq.{getD-take, length-take-le}
+use lib.Seq.{length-take-le}
+use denote.Ref.{now}
 use Rattle.requests.specs.declared.Request.{Request}
 use Rattle.requests.specs.declared.Reply.{Reply}
 use Rattle.requests.specs.Reply.{renamed}
 use Rattle.avoidance.specs.Velocity.{velocityCall, scratchAfter}
-use Rattle.records.specs.Record.{blank}
-use Rattle.fleet.specs.Plan.{keptFrom, neighbourNumbers, requestFor, ownRecord, neighbourIndices, neighboursOf, replyFor, replyScratch}
 use Rattle.records.specs.declared.Record.{Record}
-use Rattle.fleet.specs.declared.Rule.{Rule}
-use Rattle.fleet.proofs.Lists.{getD-there}
+use Rattle.planner.specs.declared.Rule.{Rule}
+use Rattle.planner.specs.Plan.{keptFrom, neighbourNumbers, requestFor, ownRecord, neighbourIndices, neighboursOf, replyFor, replyScratch}
+use Rattle.planner.proofs.Lists.{take-in-range}
 use borrow.Author.Needs.{needs}
-use Rattle.fleet.proofs.plan.reply_for.Statement.{statement}
-use Rattle.fleet.proofs.plan.reply_for.Tie as tie
+use Rattle.planner.proofs.plan.reply_for.Statement.{statement}
+use Rattle.planner.proofs.plan.reply_for.Tie as tie
 
 -- what is asked of the velocity call is what the definition asks
 module _ (timeStep : Float) (rule : Rule) (rs : List Record) (index : ℕ) (own : Record) (request : Request) (js : List ℕ) (numbers : List Float)
@@ -35,11 +36,11 @@ fits c =
     let all : length (c .neighbours-of .result .numbers) ≡ 512 = simp length-map at (c .neighbours-of .ok .1 .1 .1 .0 .1 .0 .1) in
     omega (arith, c .neighbours-of .ensures .within)
 
-mul-own : tie.Need-mul-own
-mul-own c = search needs
+in-range-requires : tie.Need-in-range-requires
+in-range-requires c κs = search needs
 
-array-copy-out-own : tie.Need-array-copy-out-own
-array-copy-out-own c = search needs
+own-record-requires : tie.Need-own-record-requires
+own-record-requires c κs = search needs
 
 neighbours-of-requires : tie.Need-neighbours-of-requires
 neighbours-of-requires c κs = search needs
@@ -89,22 +90,30 @@ returns c =
     let called = c .before .before .before .before .before in
     let asked = called .before .before .before in
     let found = asked .before .before in
-    let start = found .before .before .before in
-    let count = start .args .count in
+    let stood = found .before in
+    let ranged = stood .before in
+    let start = ranged .before .before in
+    let timeStep = start .args .time-step in
+    let rule = start .args .rule in
     let index = start .args .index in
-    let stored : index < length (start .args .t3) = rw (start .good .1 .1 .0 .1 .0 .1) (omega (arith, start .pre .0, start .pre .1)) in
-    let own-is = getD-there (start .args .t3) index _ blank stored ∙ sym (getD-take count (start .args .t3) index blank (start .pre .1)) in
-    let lists = found .neighbours-of .ensures in (
-      c .renamed .ensures ∙ replied (start .args .time-step) (start .args .rule) (take count (start .args .t3)) index _ _ _ _ own-is (asked .request-for .ensures) (lists .indexed) (lists .numbered) _ _ (called .velocity .ensures .0),
-      called .velocity .ensures .1 ∙ left (start .args .time-step) (start .args .rule) (take count (start .args .t3)) index _ _ _ _ own-is (asked .request-for .ensures) (lists .indexed) (lists .numbered) _,
+    let records = start .args .records in
+    let lists = found .neighbours-of .ensures in
+    let agents = take (ranged .in-range .result) records in
+    let same : agents ≡ take (start .args .count) records = ap (λ (n : ℕ). take n records) (ranged .in-range .ensures) ∙ take-in-range (start .args .count) 64 records (start .good .1 .1 .0 .1 .0 .1) in (
+      c .renamed .ensures
+          ∙ replied timeStep rule agents index _ _ _ _ (stood .own-record .ensures) (asked .request-for .ensures) (lists .indexed) (lists .numbered) _ _ (called .velocity .ensures .0)
+          ∙ ap (λ (rs : List Record). replyFor timeStep rule rs index (length (now (start .args .scratch)))) same,
+      called .velocity .ensures .1
+          ∙ left timeStep rule agents index _ _ _ _ (stood .own-record .ensures) (asked .request-for .ensures) (lists .indexed) (lists .numbered) _
+          ∙ ap (λ (rs : List Record). replyScratch timeStep rule rs index (now (start .args .scratch))) same,
     )
 
 pub reply-for-spec : {M : Type 1} → statement M
 reply-for-spec =
     tie.close
     (tie.spec
-    mul-own
-    array-copy-out-own
+    in-range-requires
+    own-record-requires
     neighbours-of-requires
     mul-length
     request-for-requires

@@ -7,8 +7,8 @@ use lib.Seq.{sets}
 use Rattle.requests.specs.Lent.{perAgent, agentNumbers}
 use Rattle.records.specs.declared.Record.{Record}
 use Rattle.records.specs.Record.{mostAgents, agentOf}
-use Rattle.fleet.specs.declared.plan.Neighbours.{Neighbours}
-use Rattle.fleet.specs.Plan.{neighbourNumbers}
+use Rattle.planner.specs.declared.plan.Neighbours.{Neighbours}
+use Rattle.planner.specs.Plan.{neighbourNumbers}
 
 -- for the numbers of as many neighbours as there can be agents
 abbrev pub roomForNumbers : ℕ

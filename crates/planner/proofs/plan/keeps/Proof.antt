@@ -1,8 +1,8 @@
 -- Each rule's case compares the squared distance that the calls ensure with the square of its own q: above it, or at most that.
-use Rattle.fleet.specs.Plan.{keeps}
+use Rattle.planner.specs.Plan.{keeps}
 use borrow.Author.Needs.{needs}
-use Rattle.fleet.proofs.plan.keeps.Statement.{statement}
-use Rattle.fleet.proofs.plan.keeps.Tie as tie
+use Rattle.planner.proofs.plan.keeps.Statement.{statement}
+use Rattle.planner.proofs.plan.keeps.Tie as tie
 
 position-requires : tie.Need-position-requires
 position-requires c κs = search needs

@@ -14,11 +14,11 @@ use Rattle.requests.proofs.AgentNumbers.{numbers-many}
 use Rattle.requests.specs.Checks.{neededScratch, fullScratch}
 use borrow.Author.Tests.{eqb-false}
 use Rattle.records.specs.declared.Record.{Record}
-use Rattle.fleet.specs.declared.Rule.{Rule}
-use Rattle.fleet.specs.declared.plan.Neighbours.{Neighbours}
+use Rattle.planner.specs.declared.Rule.{Rule}
+use Rattle.planner.specs.declared.plan.Neighbours.{Neighbours}
 use Rattle.records.specs.Record.{mostAgents, blank, agentOf}
-use Rattle.fleet.specs.Plan.{keeps, keptFrom, neighbourNumbers, ownRecord, neighbourIndices, neighboursOf}
-use Rattle.fleet.specs.parts.Plan.{Lists, withNeighbour}
+use Rattle.planner.specs.Plan.{keeps, keptFrom, neighbourNumbers, ownRecord, neighbourIndices, neighboursOf}
+use Rattle.planner.specs.parts.Plan.{Lists, withNeighbour}
 
 numbers-more : (rs : List Record) (js : List ℕ) (j : ℕ) → neighbourNumbers rs (js ++ j ∷ []) ≡ neighbourNumbers rs js ++ agentNumbers (agentOf (getD rs j blank))
 unfolding neighbourNumbers

@@ -7,15 +7,15 @@ use native.Mathlib.Omega.{arith}
 use lib.ListN.{length, take, getD, length-take}
 use lib.Seq.{getD-take}
 use borrow.Author.Tests.{eq-eqb, ne-eqb}
-use Rattle.fleet.specs.declared.plan.Neighbours.{Neighbours}
+use Rattle.planner.specs.declared.plan.Neighbours.{Neighbours}
 use Rattle.records.specs.Record.{blank}
-use Rattle.fleet.specs.Plan.{keeps, neighbourNumbers}
-use Rattle.fleet.specs.parts.Plan.{withNeighbour}
-use Rattle.fleet.proofs.Lists.{getD-there}
-use Rattle.fleet.proofs.Kept.{wanted, Kept, skipped, added, all-kept}
+use Rattle.planner.specs.Plan.{keeps, neighbourNumbers}
+use Rattle.planner.specs.parts.Plan.{withNeighbour}
+use Rattle.planner.proofs.Lists.{getD-there}
+use Rattle.planner.proofs.Kept.{wanted, Kept, skipped, added, all-kept}
 use borrow.Author.Needs.{needs}
-use Rattle.fleet.proofs.plan.neighbours_of.Statement.{statement}
-use Rattle.fleet.proofs.plan.neighbours_of.Tie as tie
+use Rattle.planner.proofs.plan.neighbours_of.Statement.{statement}
+use Rattle.planner.proofs.plan.neighbours_of.Tie as tie
 
 abbrev Inv-loop : tie.InvT-loop
 Inv-loop rule own index count records kept₀ at₀ neighbourIndices at = (at ≤ count) × Kept rule own index (take count records) at neighbourIndices
