@@ -1,6 +1,6 @@
 // The table and its calls add, put, remove and read. The definitions are in `specs/Table.antt`.
 ghost use mathlib.Core.Path.{_≡_};
-ghost use Prim.Native.Nat.{suc, _-_, _≤_, _<_, min};
+ghost use Prim.Native.Nat.{suc, _-_, _≤_, _<_};
 ghost use mathlib.Core.List.{[], _∷_, _++_};
 ghost use lib.ListN.{length, getD, take, drop, replicate};
 ghost use Rattle.records.specs.Record.{mostAgents, blank};
@@ -17,6 +17,7 @@ use super::Tick;
 use records::MOST_AGENTS;
 use records::RECORD_WORDS;
 use records::Record;
+use records::agents::in_range;
 use refusals::Refusal;
 use refusals::Verdict;
 
@@ -29,17 +30,6 @@ pub(crate) fn nothing_held() -> [Slot; MOST_AGENTS]
     [Slot {
         held: Held::Nothing,
     }; MOST_AGENTS]
-}
-
-// The nearest count in range.
-fn in_range(count: usize) -> usize
-    ensures { λ r. ⌜ r ≡ min count mostAgents ⌝ }
-{
-    if MOST_AGENTS < count {
-        MOST_AGENTS
-    } else {
-        count
-    }
 }
 
 // The first `count` records, and blank ones after them.

@@ -1,6 +1,6 @@
 // The neighbours that a rule keeps, and the velocity call on them. The definitions are in `specs/Plan.antt`.
 ghost use mathlib.Core.Path.{_≡_};
-ghost use Prim.Native.Nat.{_+_, _≤_, min};
+ghost use Prim.Native.Nat.{_+_, _≤_};
 ghost use lib.ListN.{length, take};
 ghost use lib.Seq.{sets};
 ghost use Rattle.requests.specs.Lent.{perAgent, agentNumbers};
@@ -11,6 +11,7 @@ use super::Rule;
 use avoidance::velocity::velocity;
 use records::MOST_AGENTS;
 use records::Record;
+use records::agents::in_range;
 use requests::AGENT_NUMBERS;
 use requests::Agent;
 use requests::Reply;
@@ -117,17 +118,6 @@ fn request_for(own: Record, time_step: f32) -> Request
         time_step,
         horizon: own.horizon(),
         fallback: own.fallback(),
-    }
-}
-
-// The nearest count in range.
-fn in_range(count: usize) -> usize
-    ensures { λ r. ⌜ r ≡ min count mostAgents ⌝ }
-{
-    if MOST_AGENTS < count {
-        MOST_AGENTS
-    } else {
-        count
     }
 }
 

@@ -1,12 +1,13 @@
 // A stored agent: its 19 words read as numbers, and the words that a tick changes. The definitions are in
 // `specs/Record.antt`.
 ghost use mathlib.Core.Path.{_≡_};
-ghost use Prim.Native.Nat.{_+_, _<_};
-ghost use Rattle.records.specs.Record.{perRecord, blank, numberAt, vectorFrom, withVector, positionOf, radiusOf, goalOf, maxSpeedOf, horizonOf, fallbackOf, agentOf, withGoal, movedTo};
+ghost use Prim.Native.Nat.{_+_, _<_, min};
+ghost use Rattle.records.specs.Record.{perRecord, mostAgents, blank, numberAt, vectorFrom, withVector, positionOf, radiusOf, goalOf, maxSpeedOf, horizonOf, fallbackOf, agentOf, withGoal, movedTo};
 use super::FALLBACK_WORD;
 use super::GOAL_WORD;
 use super::HORIZON_WORD;
 use super::MAX_SPEED_WORD;
+use super::MOST_AGENTS;
 use super::POSITION_WORD;
 use super::RADIUS_WORD;
 use super::RECORD_WORDS;
@@ -17,6 +18,17 @@ use requests::Agent;
 use vectors::Vec3;
 use vectors::number::from_word;
 use vectors::number::to_word;
+
+// A count of agents: the nearest that there can be.
+pub fn in_range(count: usize) -> usize
+    ensures { λ r. ⌜ r ≡ min count mostAgents ⌝ }
+{
+    if MOST_AGENTS < count {
+        MOST_AGENTS
+    } else {
+        count
+    }
+}
 
 impl Record {
     // What stands where there is no agent.
