@@ -1,28 +1,33 @@
 // What the programs have in common: a line put together before it is written, what is said on standard output and
 // standard error, inputs by name, and the argument `--help`. The definitions are in `specs/Line.antt`.
 //
-// No contract can say what a program reads or writes. What is not about that, the text of a line, is promised whole.
+// No contract can say what a file, standard input or standard output gives or takes. What is not about that is promised
+// whole: the text of a line, and what is read from a reader whose bytes can be known.
+#![tactic(auto)]
+
 pub mod arguments;
 pub mod inputs;
 pub mod output;
 pub mod text;
 
+use std::io::Error;
+
 // The most bytes that a line has room for.
 pub const LINE_BYTES: usize = 512;
 
 // Text that is put together to be written at once: the first `length` bytes.
-#[derive(Drop)]
+#[derive(Clone, Copy)]
 pub struct Line {
     bytes: [u8; LINE_BYTES],
     length: usize,
 }
 
-// What a read found: how many bytes it put at the start of the space lent to it, and whether it failed before the
-// space was full and before the input ended.
+// What a read found: how many bytes it put at the start of the space lent to it, and why it failed, if it did so before
+// the space was full and before the input ended.
 #[derive(Drop)]
 pub struct Filled {
     pub bytes: usize,
-    pub has_failed: bool,
+    pub failure: Option<Error>,
 }
 
 // The same of an input that is read to its end, and how many bytes it has in all: more than were put in the space where
@@ -31,5 +36,5 @@ pub struct Filled {
 pub struct Whole {
     pub bytes: usize,
     pub length: usize,
-    pub has_failed: bool,
+    pub failure: Option<Error>,
 }

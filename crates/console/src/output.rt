@@ -1,18 +1,14 @@
-// What a program says, on standard output and standard error. Each `say` answers whether its text could be written; where
-// it could not, that is said on standard error, and the program is to end.
+// What a program says, on standard output and standard error. A text that could not be written is an error, and the
+// program is to end.
 ghost use Rattle.std.specs.Prelude.{◌≤◌};
-ghost use Rattle.console.specs.Line.{line_bytes};
 
 use super::{LINE_BYTES, Line};
-use libc::{STDERR_FILENO, STDOUT_FILENO};
+use std::fmt;
+use std::io::{Error, Result};
 
 // A text, or the bytes of a file.
-pub fn say(text: &[u8]) -> bool {
-    let is_written = io::write_all(STDOUT_FILENO, text);
-    if !is_written {
-        os::fail(b"standard output");
-    }
-    is_written
+pub fn say(rt: &impl Print, text: &[u8]) -> Result<()> {
+    rt.write_all(text)
 }
 
 fn at_most(most: usize, length: usize) -> usize
@@ -21,53 +17,65 @@ fn at_most(most: usize, length: usize) -> usize
     if length <= most { length } else { most }
 }
 
-fn say_first(bytes: &[u8; LINE_BYTES], length: usize) -> bool
-    requires { length ≤ line_bytes }
-{
-    let all: &[u8] = bytes;
-    say(&all[0..length])
-}
-
 impl Line {
     // What has been put together.
-    pub fn say(self) -> bool {
-        let bytes = self.bytes;
-        say_first(&bytes, at_most(LINE_BYTES, self.length))
+    pub fn say(self, rt: &impl Print) -> Result<()> {
+        say(rt, &self.bytes[..at_most(LINE_BYTES, self.length)])
     }
 }
 
 // `file NAME`, before what comes of a file that is named.
-pub fn say_name(name: &[u8]) -> bool {
-    say(b"file ") && say(name) && say(b"\n")
+pub fn say_name(rt: &impl Print, name: &[u8]) -> Result<()> {
+    say(rt, b"file ")?;
+    say(rt, name)?;
+    say(rt, b"\n")
 }
 
 // `refused N P`, the number and the place of a refusal.
-pub fn say_refused(number: u32, place: usize) -> bool {
+pub fn say_refused(rt: &impl Print, number: u32, place: usize) -> Result<()> {
     Line::empty()
         .text(b"refused ")
-        .decimal(number as u64)
+        .decimal(u64::from(number))
         .text(b" ")
         .decimal(place as u64)
         .text(b"\n")
-        .say()
+        .say(rt)
 }
 
-// The line `unreadable`, after the reason on standard error. It is to come right after the call that failed.
-pub fn say_unreadable(name: &[u8]) -> bool {
-    complain_of(name);
-    say(b"unreadable\n")
+// The line `unreadable`, after the reason on standard error.
+pub fn say_unreadable(rt: &(impl Print + Eprint), name: &[u8], reason: &Error) -> Result<()> {
+    complain_of(rt, name, reason);
+    say(rt, b"unreadable\n")
 }
 
-// The reason why a call failed, just before, on an input of that name.
-pub fn complain_of(name: &[u8]) {
-    if name.len() == 0 {
-        complain(b"a FILE is empty, or too long for a name\n");
+// The reason why a call failed on an input of that name.
+pub fn complain_of(rt: &impl Eprint, name: &[u8], reason: &Error) {
+    if name.is_empty() {
+        complain(rt, b"a FILE is empty, or too long for a name\n");
     } else {
-        os::fail(name);
+        let name = Shown(name);
+        let _ = eprintln!(rt; "{name}: {reason}");
     }
 }
 
-// A line on standard error.
-pub fn complain(text: &[u8]) {
-    io::write_all(STDERR_FILENO, text);
+// A line on standard error. Where it can't be written there is no place to say so, and the program goes on.
+pub fn complain(rt: &impl Eprint, text: &[u8]) {
+    let text = Shown(text);
+    let _ = eprint!(rt; "{text}");
+}
+
+// Bytes that need not be text, as a file's name. What is no UTF-8 in them is shown as U+FFFD.
+#[derive(Drop)]
+struct Shown<'a>(&'a [u8]);
+
+impl<'a> fmt::Display for Shown<'a> {
+    fn fmt<W: fmt::Write>(&self, f: &mut fmt::Formatter<W>) -> fmt::Result {
+        for chunk in self.0.utf8_chunks() {
+            f.write_str(chunk.valid())?;
+            if !chunk.invalid().is_empty() {
+                f.write_str("\u{fffd}")?;
+            }
+        }
+        Ok(())
+    }
 }
