@@ -10,7 +10,7 @@ ghost use Rattle.vectors.specs.Root.{root, nearest_root};
 ghost use Rattle.vectors.specs.parts.Root.{Parts, rounded_of};
 
 // A float as digits * 2^power * 4^-149, with 24 binary digits.
-#[derive(Drop)]
+#[derive(Clone, Copy)]
 pub struct Scaled {
     pub digits: u32,
     pub power: u32,
@@ -60,7 +60,8 @@ fn nearest_root(m: u32) -> u32
     let mut digit: u32 = 0x80_0000;
     while 0 < digit {
         let trial = twice + digit;
-        if rest < trial {
+        let digit_is_zero = rest < trial;
+        if digit_is_zero {
             rest = rest << 1;
         } else {
             rest = (rest - trial) << 1;

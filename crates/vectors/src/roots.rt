@@ -13,14 +13,14 @@ use super::root::{Scaled, rounded};
 pub const LANES: usize = 8;
 
 // What a lane begins with: its rest, and the exponent of its root, at its place in the pattern.
-#[derive(Drop)]
+#[derive(Clone, Copy)]
 struct Begun {
     rest: u32,
     high: u32,
 }
 
 // What a lane has after a digit.
-#[derive(Drop)]
+#[derive(Clone, Copy)]
 struct Turn {
     rest: u32,
     twice: u32,

@@ -2,7 +2,7 @@
 use mathlib.Core.Path.{◌≡◌, refl, sym, ap, ◌∙◌, subst}
 use mathlib.Core.Bool.{Bool, true, false, cond, true≢false, false≢true}
 use Prim.Native.Nat.{ℕ, zero, suc, ◌+◌, ◌-◌, ◌*◌, ◌/◌, ◌%◌, ◌^◌, ◌≤◌, ◌<◌}
-use native.Mathlib.Nat.{le_trans, le_of_eq, lt_of_lt_of_le, lt_of_not-le, not-le_of_lt, lt_irrefl, mul-le-mul_right, mul_assoc, mul_right_comm, mul-one, zero-mul, pow-suc, one-le-pow, zero-lt-suc, mul-pos, mul-div_cancel, mod-eq_of_lt, eq_of_mul-eq-mul_right}
+use native.Mathlib.Nat.{le_trans, le_of_eq, lt_of_lt_of_le, lt_of_not-le, not-le_of_lt, lt_irrefl, mul-le-mul_right, mul_assoc, mul_right_comm, mul-one, zero-mul, one-le-pow, zero-lt-suc, mul-pos, mul-div_cancel, mod-eq_of_lt, eq_of_mul-eq-mul_right}
 use native.Mathlib.Omega.{arith}
 use lib.IntN.{ℤ}
 use lib.Dec.{T, leb, eqb}

@@ -5,7 +5,7 @@
 use mathlib.Core.Path.{◌≡◌, refl, sym, ap, ap₂, ◌∙◌, subst}
 use mathlib.Core.Bool.{Bool, true, false, not, cond}
 use Prim.Native.Nat.{ℕ, zero, suc, ◌+◌, ◌-◌, ◌*◌, ◌/◌, ◌^◌, ◌≤◌, ◌<◌}
-use native.Mathlib.Nat.{add-mul, mul-add, mul_assoc, mul_comm, mul-one, mul-mul-mul_comm, mul-lt-mul_of_pos_right, mul-le-mul_right, pow-suc, one-le-pow, zero-lt-suc, div-one, div-div-eq-div-mul, div-lt_iff_lt-mul, le-div_iff_mul-le, mul-div_cancel, lt_irrefl}
+use native.Mathlib.Nat.{add-mul, mul_assoc, mul_comm, mul-one, mul-mul-mul_comm, mul-lt-mul_of_pos_right, mul-le-mul_right, pow-suc, one-le-pow, zero-lt-suc, div-one, div-div-eq-div-mul, div-lt_iff_lt-mul, le-div_iff_mul-le, mul-div_cancel, lt_irrefl}
 use native.Mathlib.Omega.{arith}
 use lib.Dec.{T, leb, ltb, ltb→lt, nltb→le}
 use lib.Pow.{pow_pos}

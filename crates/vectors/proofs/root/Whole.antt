@@ -123,7 +123,9 @@ below-square s = ap (λ (x : ℕ). x * x) (less_one s) ∙ odd-square s
     less_one s = omega arith
 
 pub near-says : (a r : ℕ) → 0 < r → Near a r → ((2 * r - 1) * (2 * r - 1) < 4 * a) × (4 * a < (2 * r + 1) * (2 * r + 1))
+near-says a zero p n = elim p [ ]
 near-says a (suc s) p n = (omega (arith, below-square s, suc-square s, n), omega (arith, odd-square (suc s), n))
 
 pub near_of : (a r : ℕ) → 0 < r → (2 * r - 1) * (2 * r - 1) < 4 * a → 4 * a < (2 * r + 1) * (2 * r + 1) → Near a r
+near_of a zero p above below = elim p [ ]
 near_of a (suc s) p above below = (omega (arith, below-square s, suc-square s), omega (arith, odd-square (suc s)))
