@@ -1,10 +1,12 @@
 // Why a call is refused, for every crate above: the documents' table of numbered answers, one case to each number, with
 // one row of number and place. Document 01 has 1 to 15, document 02 16 to 18. The definitions are in `specs/`.
+#![tactic(auto)]
+
 ghost use Rattle.std.specs.Prelude.{◌≡◌};
 ghost use Rattle.refusals.specs.Refusal.{number, place_of};
 
 // A refusal holds what its place is made of.
-#[derive(Drop)]
+#[derive(Clone, Copy)]
 pub enum Refusal {
     RaggedNeighbours,
     ShortScratch { needed: usize },
@@ -27,14 +29,14 @@ pub enum Refusal {
 }
 
 // What a call's checks say.
-#[derive(Drop)]
+#[derive(Clone, Copy)]
 pub enum Verdict {
     Passed,
     Refused(Refusal),
 }
 
 // The first place at which something was found.
-#[derive(Drop)]
+#[derive(Clone, Copy)]
 pub enum Found {
     At(usize),
     Nothing,
