@@ -1,16 +1,18 @@
 // Lines of a stored list, as the programs that run one read them: where a line or a field ends, a comment, a key,
 // and the fields after it, each a count or a word. The definitions are in `specs/Lines.antt`.
+#![tactic(auto)]
+
 ghost use Rattle.std.specs.Prelude.{◌≡◌, ◌≤◌, ◌<◌, length};
 ghost use Rattle.lines.specs.Lines.{digit_of, spelled_in, word_of, count_of, length_until, is_comment, packed_after, key_of, after_key, as_malformed, with_count, with_word, with_field, no_fields, fields_of};
 
-#[derive(Drop)]
+#[derive(Clone, Copy)]
 pub enum Number {
     Is(u32),
     Malformed,
 }
 
 // The fields of a line. A malformed one keeps the fields that could be read.
-#[derive(Drop)]
+#[derive(Clone, Copy)]
 pub struct Fields {
     pub counts: [usize; 2],
     pub counted: usize,

@@ -9,11 +9,9 @@ use native.Mathlib.Omega.{arith}
 use lib.Dec.{eqb}
 use lib.ListN.{length, take, drop, length-drop}
 use lib.Seq.{take_all, drop-drop}
-use borrow.Author.Rules.{rules}
 use Rattle.lines.specs.declared.Fields.{Fields}
 use Rattle.lines.specs.Lines.{length_until, begun_by, parts, with_field, with_fields, fields_of}
-use Rattle.lines.proofs.read_fields.Statement.{statement}
-use Rattle.lines.proofs.read_fields.Tie as tie
+use Rattle.lines.proofs.read_fields.Goals as goal
 
 -- the first part, where it starts with b, and those after it
 picked :
@@ -62,85 +60,36 @@ ended f s at h =
     let none : length (drop at s) ≡ 0 = simp length-drop (omega arith) in
     rw (empty (drop at s) none)
 
-abbrev invariant-loop : tie.invariant-loop
-invariant-loop text fields₀ at₀ fields at =
-    (at ≤ length text + 1) × (fields_of text ≡ with_fields fields (parts (drop at text)))
-
-abbrev decreases-loop : tie.decreases-loop
-decreases-loop text fields₀ at₀ fields at = length text + 1 - at
-
-end-within : (c : tie.After-length-until invariant-loop decreases-loop) → c.before.before.before.loop.at + c.length-until.result ≤ length c.before.before.before.before.before.before.args.text.now
-end-within c = omega (arith, c.length-until.ensures.1, c.before.length-until-arg.given.2)
-
-no-fields-requires : tie.Need-no-fields-requires invariant-loop decreases-loop
-no-fields-requires c κs = search rules
-
-loop-holds : tie.Need-loop-init invariant-loop decreases-loop
+pub loop-at-init : goal.loop-at-init
 unfolding fields_of
-loop-holds c = (omega arith, rw c.no_fields.ensures)
+loop-at-init c = (omega arith, rw c.no_fields-fields.ensures)
 
-sub-length-until : tie.Need-overflow-sub-length-until invariant-loop decreases-loop
-sub-length-until c = search rules
+pub overflow_add-end : goal.overflow_add-end
+overflow_add-end c =
+    let end-within : c.loop-at.at + c.length_until.result ≤ length c.args.text.now = omega (arith, c.length_until.ensures.within, c.length_until-arg-1.given.1) in
+    omega (arith, end-within)
 
-part-length-until-start : tie.Need-slice-bounds-length-until-start invariant-loop decreases-loop
-part-length-until-start c = search rules
+pub slice_bounds-with_field-end : goal.slice_bounds-with_field-end
+slice_bounds-with_field-end c =
+    let end-within : c.loop-at.at + c.length_until.result ≤ length c.args.text.now = omega (arith, c.length_until.ensures.within, c.length_until-arg-1.given.1) in
+    end-within
 
-part-length-until-end : tie.Need-slice-bounds-length-until-end invariant-loop decreases-loop
-part-length-until-end c = search rules
+pub overflow_add-at : goal.overflow_add-at
+overflow_add-at c =
+    let end-within : c.loop-at.at + c.length_until.result ≤ length c.args.text.now = omega (arith, c.length_until.ensures.within, c.length_until-arg-1.given.1) in
+    omega (arith, end-within)
 
-length-until-requires : tie.Need-length-until-requires invariant-loop decreases-loop
-length-until-requires c κs = search rules
+pub loop-at-smaller : goal.loop-at-smaller
+loop-at-smaller c =
+    let end-within : c.loop-at.at + c.length_until.result ≤ length c.args.text.now = omega (arith, c.length_until.ensures.within, c.length_until-arg-1.given.1) in
+    omega (arith, end-within)
 
-add-end : tie.Need-overflow-add-end invariant-loop decreases-loop
-add-end c = omega (arith, end-within c)
-
-sub-with-field : tie.Need-overflow-sub-with-field invariant-loop decreases-loop
-sub-with-field c = search rules
-
-part-with-field-start : tie.Need-slice-bounds-with-field-start invariant-loop decreases-loop
-part-with-field-start c = search rules
-
-part-with-field-end : tie.Need-slice-bounds-with-field-end invariant-loop decreases-loop
-part-with-field-end c = end-within c
-
-with-field-requires : tie.Need-with-field-requires invariant-loop decreases-loop
-with-field-requires c κs = search rules
-
-add_at : tie.Need-overflow-add-at invariant-loop decreases-loop
-add_at c = omega (arith, end-within c.before.before)
-
-loop-less : tie.Need-loop-smaller invariant-loop decreases-loop
-loop-less c = omega (arith, end-within c.before.before)
-
-loop-again : tie.Need-loop-preserved invariant-loop decreases-loop
-loop-again c =
-    let at-end = c.before.before in
-    let at-loop = at-end.before.before.before in (
-      omega (arith, end-within at-end),
-      at-loop.loop.invariant.1 ∙ turn _ _ _ _ _ at-end.before.before.loop-test.true at-end.length-until.ensures.0 c.with-field.ensures,
+pub loop-at-preserved : goal.loop-at-preserved
+loop-at-preserved c =
+    let end-within : c.loop-at.at + c.length_until.result ≤ length c.args.text.now = omega (arith, c.length_until.ensures.within, c.length_until-arg-1.given.1) in (
+      omega (arith, end-within),
+      c.loop-at.invariant.1 ∙ turn _ _ _ _ _ c.loop-at-test.true c.length_until.ensures.value c.with_field-fields.ensures,
     )
 
-returns : tie.Need-returns invariant-loop decreases-loop
-returns c = sym (c.before.loop.invariant.1 ∙ ended _ _ _ c.loop-test.false)
-
-pub read-fields-spec : {M : Type 1} → statement M
-read-fields-spec =
-    tie.close
-    (tie.spec
-    invariant-loop
-    decreases-loop
-    no-fields-requires
-    loop-holds
-    sub-length-until
-    part-length-until-start
-    part-length-until-end
-    length-until-requires
-    add-end
-    sub-with-field
-    part-with-field-start
-    part-with-field-end
-    with-field-requires
-    add_at
-    loop-less
-    loop-again
-    returns)
+pub returns : goal.returns
+returns c = sym (c.loop-at.invariant.1 ∙ ended _ _ _ c.loop-at-test.false)

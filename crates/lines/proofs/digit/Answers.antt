@@ -1,0 +1,37 @@
+-- `lines::digit` meets its contract: each return is what `digit_of` picks by the tests that led there.
+-- Assumes nothing.
+use borrow.Author.Tests.{lt-ltb, le-ltb, le-leb, lt-leb}
+use Rattle.lines.specs.Lines.{digit_of}
+use Rattle.lines.proofs.digit.Goals as goal
+
+pub returns-then-byte-lt48 : goal.returns-then-byte-lt48
+unfolding digit_of
+returns-then-byte-lt48 c = simp (lt-ltb _ _ c.if-byte-lt48.true)
+
+pub returns-then-byte-le57 : goal.returns-then-byte-le57
+unfolding digit_of
+returns-then-byte-le57 c = simp (le-ltb _ _ c.if-byte-lt48.false, le-leb _ _ c.if-byte-le57.true)
+
+pub returns-then-byte-lt97 : goal.returns-then-byte-lt97
+unfolding digit_of
+returns-then-byte-lt97 c = simp (le-ltb _ _ c.if-byte-lt48.false, lt-leb _ _ c.if-byte-le57.false, lt-ltb _ _ c.if-byte-lt97.true)
+
+pub returns-then-byte-le102 : goal.returns-then-byte-le102
+unfolding digit_of
+returns-then-byte-le102 c =
+    simp (
+      le-ltb _ _ c.if-byte-lt48.false,
+      lt-leb _ _ c.if-byte-le57.false,
+      le-ltb _ _ c.if-byte-lt97.false,
+      le-leb _ _ c.if-byte-le102.true,
+    )
+
+pub returns-else-byte-le102 : goal.returns-else-byte-le102
+unfolding digit_of
+returns-else-byte-le102 c =
+    simp (
+      le-ltb _ _ c.if-byte-lt48.false,
+      lt-leb _ _ c.if-byte-le57.false,
+      le-ltb _ _ c.if-byte-lt97.false,
+      lt-leb _ _ c.if-byte-le102.false,
+    )
