@@ -11,7 +11,7 @@ use vectors::root::root;
 use vectors::{Clamped, Vec3};
 
 // What is left of a line: the times from `left` to `right`, or nothing.
-#[derive(Drop)]
+#[derive(Clone, Copy)]
 pub enum Cut {
     Open { left: f32, right: f32 },
     Shut,

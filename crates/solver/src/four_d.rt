@@ -14,14 +14,14 @@ use vectors::Vec3;
 use vectors::number::RVO_EPSILON;
 
 // What turning a previous plane gives: a plane, or nothing where the two face the same way.
-#[derive(Drop)]
+#[derive(Clone, Copy)]
 pub enum Turned {
     Kept(Plane),
     LeftOut,
 }
 
 // The least penetrating value so far, and how far it lies behind the plane that asked for it.
-#[derive(Drop)]
+#[derive(Clone, Copy)]
 pub struct Relaxed {
     pub value: Vec3,
     pub penetration: f32,

@@ -1,6 +1,8 @@
 // Document 01, modules 2 to 6: planes and lines, and the four linear programs of the Rust's
 // linear_programming.rs. Every public function is total, and ensures equality with a definition of
 // `specs/`, which stands there under the same name.
+#![tactic(auto)]
+
 use vectors::Vec3;
 
 pub mod along_line;
@@ -19,20 +21,20 @@ pub const PLANE_NUMBERS: usize = 6;
 pub const SCRATCH_NUMBERS: usize = 12;
 
 // A half-space: the values on the side of `point` that `normal` shows.
-#[derive(Drop)]
+#[derive(Clone, Copy)]
 pub struct Plane {
     pub point: Vec3,
     pub normal: Vec3,
 }
 
-#[derive(Drop)]
+#[derive(Clone, Copy)]
 pub struct Line {
     pub point: Vec3,
     pub direction: Vec3,
 }
 
 // What a program looks for: the value nearest to a point, or furthest in a direction.
-#[derive(Drop)]
+#[derive(Clone, Copy)]
 pub enum Optimum {
     Point { x: f32, y: f32, z: f32 },
     Direction { x: f32, y: f32, z: f32 },
@@ -40,7 +42,7 @@ pub enum Optimum {
 
 // What the program along a line answers. A clamp whose lower bound is not `<=` its upper is neither
 // feasible nor infeasible: there Rust panics.
-#[derive(Drop)]
+#[derive(Clone, Copy)]
 pub enum OnLine {
     Value(Vec3),
     Infeasible,
@@ -48,7 +50,7 @@ pub enum OnLine {
 }
 
 // What the program along a plane answers. A bad clamp is one of a line that it was solved on.
-#[derive(Drop)]
+#[derive(Clone, Copy)]
 pub enum OnPlane {
     Value(Vec3),
     Infeasible,
@@ -56,7 +58,7 @@ pub enum OnPlane {
 }
 
 // The plane at which the program was found infeasible, and the value that the planes before it left.
-#[derive(Drop)]
+#[derive(Clone, Copy)]
 pub struct Failure {
     pub index: usize,
     pub value: Vec3,
@@ -64,7 +66,7 @@ pub struct Failure {
 
 // A clamp whose lower bound is not `<=` its upper is neither feasible nor infeasible: it comes with
 // the index of the plane that was being solved on.
-#[derive(Drop)]
+#[derive(Clone, Copy)]
 pub enum Outcome {
     Feasible(Vec3),
     Infeasible(Failure),
@@ -72,7 +74,7 @@ pub enum Outcome {
 }
 
 // The value, and how 3D came out: where that is a bad clamp, the value is three +0s.
-#[derive(Drop)]
+#[derive(Clone, Copy)]
 pub struct Solution {
     pub outcome: Outcome,
     pub value: Vec3,
