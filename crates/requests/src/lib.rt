@@ -1,6 +1,8 @@
 // Document 01, module 7: what a velocity call is given and what it answers, with its checks. The types stand here, and
 // what is done with them in the modules. Every public function is total, and ensures equality with a definition of
 // `specs/`, which stands there under the same name.
+#![tactic(auto)]
+
 pub mod checks;
 pub mod replies;
 pub mod requests;
@@ -37,7 +39,7 @@ pub const HORIZON_PLACE: usize = 13;
 
 pub const FALLBACK_PLACE: usize = 14;
 
-#[derive(Drop)]
+#[derive(Clone, Copy)]
 pub struct Agent {
     pub position: Vec3,
     pub velocity: Vec3,
@@ -45,7 +47,7 @@ pub struct Agent {
     pub responsibility: f32,
 }
 
-#[derive(Drop)]
+#[derive(Clone, Copy)]
 pub struct Request {
     pub agent: Agent,
     pub preferred: Vec3,
@@ -56,7 +58,7 @@ pub struct Request {
 }
 
 // What a number at a place may be.
-#[derive(Drop)]
+#[derive(Clone, Copy)]
 pub enum Kind {
     Any,
     NotNegative,
@@ -64,7 +66,7 @@ pub enum Kind {
 }
 
 // What is asked of every number: to be finite, or to be in its range.
-#[derive(Drop)]
+#[derive(Clone, Copy)]
 pub enum Asked {
     Finite,
     InRange,
@@ -72,7 +74,7 @@ pub enum Asked {
 
 // The velocity to take, the plane from which it is relaxed, if it is, and the first neighbour that is
 // unseen, if one is.
-#[derive(Drop)]
+#[derive(Clone, Copy)]
 pub struct Course {
     pub velocity: Vec3,
     pub relaxed: Found,
@@ -80,7 +82,7 @@ pub struct Course {
 }
 
 // What a velocity call answers.
-#[derive(Drop)]
+#[derive(Clone, Copy)]
 pub enum Reply {
     Answered(Course),
     Refused(Refusal),
