@@ -17,7 +17,7 @@ use vectors::roots::roots;
 pub const LANES: usize = 8;
 
 // Eight relations, and the responsibilities of the others.
-#[derive(Drop)]
+#[derive(Clone, Copy)]
 pub struct Relations {
     pub position_x: [f32; 8],
     pub position_y: [f32; 8],
@@ -29,7 +29,7 @@ pub struct Relations {
     pub responsibility: [f32; 8],
 }
 
-#[derive(Drop)]
+#[derive(Clone, Copy)]
 pub struct Approaches {
     pub center_x: [f32; 8],
     pub center_y: [f32; 8],
@@ -41,7 +41,7 @@ pub struct Approaches {
     pub number: [f32; 8],
 }
 
-#[derive(Drop)]
+#[derive(Clone, Copy)]
 pub struct Directions {
     pub x: [f32; 8],
     pub y: [f32; 8],
@@ -50,7 +50,7 @@ pub struct Directions {
 }
 
 // Eight planes, and whether each is unseen.
-#[derive(Drop)]
+#[derive(Clone, Copy)]
 pub struct Planes {
     pub point_x: [f32; 8],
     pub point_y: [f32; 8],

@@ -10,7 +10,7 @@ use requests::{
 use vectors::Vec3;
 
 // What reading a request from lent numbers gives.
-#[derive(Drop)]
+#[derive(Clone, Copy)]
 pub enum ReadRequest {
     Is(Request),
     BadLength,

@@ -1,5 +1,7 @@
 // Document 01, module 7, its first part: the planes from the neighbours, from the Rust's lib.rs. Every public function is
 // total, and ensures equality with a definition of `specs/`, which stands there under the same name.
+#![tactic(auto)]
+
 mod groups;
 pub mod lent;
 pub mod neighbour;
@@ -11,7 +13,7 @@ use solver::Plane;
 
 // The half-space of velocities that avoid a neighbour, and whether the neighbour is unseen: head-on past the
 // tangent ring no normal can be made, it is zero, and the plane keeps no velocity out.
-#[derive(Drop)]
+#[derive(Clone, Copy)]
 pub struct NeighbourPlane {
     pub plane: Plane,
     pub unseen: bool,
@@ -19,7 +21,7 @@ pub struct NeighbourPlane {
 
 // What making the planes came to: all are finite, with the first neighbour that is unseen, if one is; or the
 // neighbour whose plane is not.
-#[derive(Drop)]
+#[derive(Clone, Copy)]
 pub enum Made {
     Finite(Found),
     NotFinite(usize),

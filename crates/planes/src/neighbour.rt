@@ -12,7 +12,7 @@ use vectors::root::root;
 
 // What both agents make of their relation: the other's place and our velocity, each as seen from the
 // other agent, and the sum of the radii.
-#[derive(Drop)]
+#[derive(Clone, Copy)]
 pub struct Relation {
     pub position: Vec3,
     pub velocity: Vec3,
@@ -21,7 +21,7 @@ pub struct Relation {
 
 // The relative velocity projected to the velocity obstacle, the obstacle's normal there, whether the
 // relative velocity lies inside it, and whether there was no normal to be made.
-#[derive(Drop)]
+#[derive(Clone, Copy)]
 pub struct Projection {
     pub normal: Vec3,
     pub value: Vec3,

@@ -16,7 +16,7 @@ use vectors::number::is_finite;
 // What the first stage makes of a neighbour, and the later ones go by: the cut-off sphere, at the horizon or in a
 // collision at the end of the step; our part of the way; whether there is no collision; whether the relative velocity is
 // projected to the cut-off shadow, a cone; and the number that is to be rooted first, which only a cone has.
-#[derive(Drop)]
+#[derive(Clone, Copy)]
 pub struct Approach {
     pub center: Vec3,
     pub radius: f32,
@@ -27,7 +27,7 @@ pub struct Approach {
 }
 
 // The direction of the normal, and its length squared, which is rooted next.
-#[derive(Drop)]
+#[derive(Clone, Copy)]
 pub struct Direction {
     pub vector: Vec3,
     pub square: f32,
