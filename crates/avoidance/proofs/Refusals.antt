@@ -2,7 +2,7 @@
 --     by-conditions: the refusal is the one of the first condition that holds, for the layers above
 use mathlib.Core.Path.{◌≡◌, refl, sym, ap, ◌∙◌}
 use mathlib.Core.Bool.{Bool, true, false, not, cond}
-use mathlib.Core.List.{List, [], ◌∷◌, ◌++◌}
+use mathlib.Core.List.{List, [], ◌∷◌}
 use mathlib.Core.Logic.{◌↔◌}
 use Prim.Native.Nat.{ℕ, zero, suc}
 use native.Mathlib.Omega.{arith}
@@ -15,7 +15,7 @@ use Rattle.refusals.specs.declared.Found.TheVariants.{At, Nothing}
 use Rattle.refusals.specs.declared.Refusal.TheVariants as refusal
 use Rattle.refusals.specs.declared.Verdict.{Verdict}
 use Rattle.refusals.specs.Conditions.{first_holding, is_found, some, marked, first_bad}
-use Rattle.refusals.specs.Verdict.{◌⊳◌, settled_by, refused_if, refused_at}
+use Rattle.refusals.specs.Verdict.{◌⊳◌, refused_if}
 use Rattle.refusals.proofs.Conditions.{no_place}
 use Rattle.refusals.proofs.Verdicts.{said, Says, then, held-says, found-says}
 use Rattle.solver.specs.declared.Plane.{Plane}
@@ -23,7 +23,6 @@ use Rattle.solver.specs.declared.Outcome.{Outcome}
 use Rattle.solver.specs.declared.Outcome.TheVariants.{Feasible, Infeasible, BadClamp}
 use Rattle.solver.specs.Solve.{solve}
 use Rattle.requests.specs.declared.Request.{Request}
-use Rattle.requests.specs.declared.Reply.{Reply}
 use Rattle.requests.specs.declared.Reply.TheVariants.{Answered, Refused}
 use Rattle.requests.specs.Checks.{checks}
 use Rattle.requests.proofs.ReplyLaws.{refused_with, reply-says, numbered, unrefused}

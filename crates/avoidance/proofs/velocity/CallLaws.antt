@@ -1,5 +1,5 @@
 -- What the layers above need to know of a velocity call: of scratch it reads only whether it is enough.
-use mathlib.Core.Path.{◌≡◌, refl}
+use mathlib.Core.Path.{refl}
 use Rattle.requests.specs.Checks.{checks}
 use Rattle.requests.proofs.ReplyLaws.{answered-passed}
 use Rattle.requests.proofs.checks.Passed.{passed-fits, checks-enough}
