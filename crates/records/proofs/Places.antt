@@ -69,7 +69,7 @@ module _ (start : ℕ) (r : Record) where
       gives_then InRecord (refused_at (bad_margin r) (λ place. BadMargin (start + place))) (unfinite ⊳ outside ⊳ unfit)
       (gives_found InRecord (bad_margin r) (λ place. BadMargin (start + place)) margin-placed)
       (gives_then InRecord unfinite (outside ⊳ unfit)
-      (gives_found InRecord finite (λ place. NotFinite (start + place)) (λ place e. PlacedRecord.not-Finite place (found-lowest (bad_word Finite) 0 r.words 0 place e)))
+      (gives_found InRecord finite (λ place. NotFinite (start + place)) (λ place e. PlacedRecord.not_finite place (found-lowest (bad_word Finite) 0 r.words 0 place e)))
       (gives_then InRecord outside unfit
       (gives_found InRecord ranged (λ place. OutOfRange (start + place)) (λ place e. PlacedRecord.out_of_range place (found-lowest (bad_word InRange) 0 r.words 0 place e)))
       (gives-held InRecord (bad_fallback (fallback_of r)) (BadFallback (start + fallback_word)) PlacedRecord.bad-fallback)))

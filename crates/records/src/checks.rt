@@ -17,7 +17,8 @@ fn bad_margin(stored: Record) -> Found
     ensures { result ≡ bad_margin stored }
 {
     let margin = stored.words[MARGIN_WORD];
-    if 1 < margin {
+    let is_unknown = 1 < margin;
+    if is_unknown {
         return Found::At(MARGIN_WORD);
     }
     if margin == 0 {

@@ -47,7 +47,8 @@ pub(crate) fn whole_file(bytes: usize) -> Verdict
     if bytes % RECORD_BYTES != 0 {
         return Verdict::Refused(Refusal::BadFile { bytes });
     }
-    if MOST_AGENTS < bytes / RECORD_BYTES {
+    let is_too_long = MOST_AGENTS < bytes / RECORD_BYTES;
+    if is_too_long {
         return Verdict::Refused(Refusal::BadFile { bytes });
     }
     Verdict::Passed

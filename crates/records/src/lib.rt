@@ -1,6 +1,8 @@
 // Stored agents, of document 01's module 8: a record with its checks, the fleet file that holds such records, and a
 // reader over one. The types stand here, and what is done with them in the modules. Every public function is total,
 // and ensures equality with a definition of `specs/`.
+#![tactic(auto)]
+
 pub mod agents;
 pub mod checks;
 pub mod file;
@@ -39,13 +41,13 @@ pub const DISTANCE_WORD: usize = 18;
 
 // A stored agent. Document 01's words: 0-2 position, 3-5 velocity, 6 radius, 7 responsibility, 8-10 goal, 11 maximum
 // speed, 12 time horizon, 13-15 fallback, 16 obstacle time horizon, 17 margin, 18 distance.
-#[derive(Drop)]
+#[derive(Clone, Copy)]
 pub struct Record {
     pub words: [u32; RECORD_WORDS],
 }
 
 // What a file holds: its records, and blank ones after them. Refused, it holds none.
-#[derive(Drop)]
+#[derive(Clone, Copy)]
 pub struct Decoded {
     pub verdict: Verdict,
     pub count: usize,
@@ -53,14 +55,14 @@ pub struct Decoded {
 }
 
 // A lent file, and the index of the record to hand out.
-#[derive(Drop)]
+#[derive(Clone, Copy)]
 pub struct RecordReader<'a> {
     pub file: &'a [u8],
     pub index: usize,
 }
 
 // What a reader hands out. Refused, the record is blank.
-#[derive(Drop)]
+#[derive(Clone, Copy)]
 pub struct Handed {
     pub verdict: Verdict,
     pub stored: Record,
