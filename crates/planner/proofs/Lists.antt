@@ -7,10 +7,10 @@ use lib.ListN.{length, get_or, take, drop, length-take, take-append-drop}
 use lib.Seq.{take-append_seam}
 
 -- what stands for an element past the end does not show in one that is there
-pub get_d-there : {A : Type 0} (l : List A) (i : ℕ) (d e : A) → i < length l → get_or l i d ≡ get_or l i e
-get_d-there [] i d e h = absurd (not-suc-le-zero h)
-get_d-there (x ∷ xs) zero d e h = refl
-get_d-there (x ∷ xs) (suc i) d e h = get_d-there xs i d e (le_of_suc-le-suc h)
+pub get_or-there : {A : Type 0} (l : List A) (i : ℕ) (d e : A) → i < length l → get_or l i d ≡ get_or l i e
+get_or-there [] i d e h = absurd (not-suc-le-zero h)
+get_or-there (x ∷ xs) zero d e h = refl
+get_or-there (x ∷ xs) (suc i) d e h = get_or-there xs i d e (le_of_suc-le-suc h)
 
 -- as many as there are of the first n are the first n
 pub take-taken : {A : Type 0} (n : ℕ) (l : List A) → take (length (take n l)) l ≡ take n l

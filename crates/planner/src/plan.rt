@@ -16,7 +16,7 @@ use requests::{AGENT_NUMBERS, Agent, Reply, Request};
 const ROOM: usize = 512;
 
 // The neighbours of a plan, eight numbers to each, and their indices in the table.
-#[derive(Drop)]
+#[derive(Clone, Copy)]
 struct Neighbours {
     count: usize,
     numbers: [f32; ROOM],
@@ -90,7 +90,8 @@ fn neighbours_of(
     let mut at = 0;
     while at < count {
         let other = records[at];
-        if at != index {
+        let is_other = at != index;
+        if is_other {
             if keeps(rule, own, other) {
                 let listed = kept.count;
                 write_agent(&mut kept.numbers, AGENT_NUMBERS * listed, other.agent());
@@ -122,7 +123,8 @@ fn own_record(records: [Record; MOST_AGENTS], count: usize, index: usize) -> Rec
     requires { count ≤ most_agents }
     ensures { result ≡ own_record (take count records) index }
 {
-    if count <= index {
+    let is_past = count <= index;
+    if is_past {
         return Record::blank();
     }
     records[index]
