@@ -1,6 +1,8 @@
 // Document 01, module 8: the fleet table, simulator.rs's `Simulator` with its refusals, and the tick. A fleet is
 // a value: each call takes it and hands the new one back beside its answer. The types stand here, and what is done
 // with them in the modules. Every public function is total, and ensures equality with a definition of `specs/`.
+#![tactic(auto)]
+
 pub mod answers;
 pub mod loading;
 pub mod plan;
@@ -16,7 +18,7 @@ use vectors::Vec3;
 
 // What a call on the table answers. A plan that the table does not refuse passes on what the velocity call
 // answers, a refusal or a velocity.
-#[derive(Drop)]
+#[derive(Clone, Copy)]
 pub enum Answer {
     Done,
     Plan(Reply),
@@ -24,27 +26,27 @@ pub enum Answer {
 }
 
 // The tick that is open, if one is, as it was opened.
-#[derive(Drop)]
+#[derive(Clone, Copy)]
 pub enum Tick {
     Shut,
     Open { time_step: f32, rule: Rule },
 }
 
 // What is held for an agent until the tick ends.
-#[derive(Drop)]
+#[derive(Clone, Copy)]
 pub enum Held {
     Nothing,
     Vector(Vec3),
 }
 
 // An agent's place among what is held.
-#[derive(Drop)]
+#[derive(Clone, Copy)]
 pub struct Slot {
     pub held: Held,
 }
 
 // What stands, in a tick and between ticks: the agents' records, of which there are `count`.
-#[derive(Drop)]
+#[derive(Clone, Copy)]
 pub struct Standing {
     count: usize,
     records: [Record; MOST_AGENTS],
@@ -52,7 +54,7 @@ pub struct Standing {
 
 // What stands; the tick; and for each agent the velocity planned and the last goal set in the tick. Only the calls
 // make one.
-#[derive(Drop)]
+#[derive(Clone, Copy)]
 pub struct Fleet {
     standing: Standing,
     tick: Tick,
@@ -61,14 +63,14 @@ pub struct Fleet {
 }
 
 // What a call hands back. Refused, it is the very fleet that was given.
-#[derive(Drop)]
+#[derive(Clone, Copy)]
 pub struct Called {
     pub answer: Answer,
     pub fleet: Fleet,
 }
 
 // What the call save hands back: the fleet that was given, and how many bytes it wrote. Refused, none.
-#[derive(Drop)]
+#[derive(Clone, Copy)]
 pub struct Saved {
     pub answer: Answer,
     pub fleet: Fleet,
@@ -76,7 +78,7 @@ pub struct Saved {
 }
 
 // What the call read hands back. Refused, the words are zeros.
-#[derive(Drop)]
+#[derive(Clone, Copy)]
 pub struct Read {
     pub answer: Answer,
     pub words: [u32; RECORD_WORDS],
