@@ -1,6 +1,8 @@
 // A tick in one piece: open, plan every agent by rising index, close. Its answer is the first refused call's, and a
 // tick that it opened is dropped where a call in it is refused. And ticks one after another. The definitions are in
 // `specs/Tick.antt`.
+#![tactic(auto)]
+
 ghost use Rattle.std.specs.Prelude.{◌≡◌, length};
 ghost use Rattle.fleet.specs.Tick.{close_call};
 ghost use Rattle.fleet.specs.Table.{agents};
