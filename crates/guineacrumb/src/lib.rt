@@ -1,5 +1,7 @@
 // The static library for C and Rust: thin exported functions, each over one public function of the
 // crates below, with that function's promise. include/guineacrumb.h declares them for C.
+#![tactic(auto)]
+
 ghost use Rattle.std.specs.Prelude.{◌≡◌, map, length};
 ghost use Rattle.vectors.specs.Root.{root};
 ghost use Rattle.fleet.specs.Answer.{number, place_of};
