@@ -2,6 +2,8 @@
 // knows how many frames there were, which two agents came nearest, and how many pairs lay below a limit. The types
 // stand here, and what is done with them in the modules. Every public function is total, and ensures equality with a
 // definition of `specs/`.
+#![tactic(auto)]
+
 pub mod answers;
 pub mod millimetres;
 pub mod pairs;
@@ -14,7 +16,7 @@ pub const MOST_AGENTS: usize = 64;
 pub const MOST_FRAMES: usize = 1_048_576;
 
 // Why a tally is not begun as asked, or a frame is not taken.
-#[derive(Drop)]
+#[derive(Clone, Copy)]
 pub enum Refusal {
     TooManyAgents,
     WrongLength { numbers: usize },
@@ -22,14 +24,14 @@ pub enum Refusal {
     OutOfReach { place: usize },
 }
 
-#[derive(Drop)]
+#[derive(Clone, Copy)]
 pub enum Answer {
     Done,
     Refused(Refusal),
 }
 
 // Two agents in a frame, and the square of their distance in millimetres.
-#[derive(Drop)]
+#[derive(Clone, Copy)]
 pub struct Sighting {
     pub squared: u64,
     pub frame: usize,
@@ -38,14 +40,14 @@ pub struct Sighting {
 }
 
 // The smallest of some sightings, if there are any.
-#[derive(Drop)]
+#[derive(Clone, Copy)]
 pub enum Smallest {
     Nowhere,
     Seen(Sighting),
 }
 
 // How many frames, where two agents were nearest, and how many pairs in frames lay below the limit.
-#[derive(Drop)]
+#[derive(Clone, Copy)]
 pub struct Report {
     pub frames: usize,
     pub smallest: Smallest,
@@ -54,7 +56,7 @@ pub struct Report {
 
 // The running tally: for how many agents, the limit in millimetres, and the report so far. A count of agents over 64
 // is read as 64.
-#[derive(Drop)]
+#[derive(Clone, Copy)]
 pub struct Tally {
     agents: usize,
     limit: u32,
@@ -62,7 +64,7 @@ pub struct Tally {
 }
 
 // An answer, and the tally after it.
-#[derive(Drop)]
+#[derive(Clone, Copy)]
 pub struct Tallied {
     pub answer: Answer,
     pub tally: Tally,

@@ -10,7 +10,7 @@ use super::MOST_AGENTS;
 use super::millimetres::from_corner;
 
 // The smallest squared distance so far with its pair, and how many were below the limit.
-#[derive(Drop)]
+#[derive(Clone, Copy)]
 pub(crate) struct Running {
     pub(crate) squared: u64,
     pub(crate) first: usize,
@@ -72,7 +72,7 @@ fn from_corner_squared(
 }
 
 // One agent's place, and the square of its distance from the corner.
-#[derive(Drop)]
+#[derive(Clone, Copy)]
 struct Spot {
     x: u32,
     y: u32,
@@ -107,7 +107,7 @@ fn squared_between(p: Spot, q: Spot) -> u64
 }
 
 // The least of some squared distances and of a bound, and how many were below the limit.
-#[derive(Drop)]
+#[derive(Clone, Copy)]
 struct Glance {
     least: u64,
     below: u64,

@@ -6,8 +6,7 @@ use native.Mathlib.Omega.{arith}
 use lib.Ieee.{Float, nan, inf, fin, lt, ne, neg, is_nan, of_bits}
 use Rattle.vectors.proofs.NotANumber.{is_nan-is}
 use Rattle.spacing.specs.Frame.{farthest, minus_farthest, out_of_reach}
-use Rattle.spacing.proofs.tallies.is_out_of_reach.Statement.{statement}
-use Rattle.spacing.proofs.tallies.is_out_of_reach.Tie as tie
+use Rattle.spacing.proofs.tallies.is_out_of_reach.Goals as goal
 
 above : (x : Float) → lt farthest x ≡ true → true ≡ out_of_reach x
 unfolding out_of_reach
@@ -28,16 +27,13 @@ between (inf false) h g = let z : ◌≡◌ {A = ℕ} 0 1 = cc in absurd (omega 
 between (inf true) h g = let z : ◌≡◌ {A = ℕ} 0 1 = cc in absurd (omega arith)
 between (fin s m e) h g = sym (is_nan-is (fin s m e)) ∙ rw (h, g)
 
-returns : tie.Need-returns
-returns c = above c.before.args.x c.if1.true
+pub returns-then-x : goal.returns-then-x
+returns-then-x c = above c.args.x c.if-x.true
 
-returns-2 : tie.Need-returns-2
+pub returns-then-x-2 : goal.returns-then-x-2
 unfolding neg of_bits
-returns-2 c = below c.before.before.args.x c.before.if1.false c.if2.true
+returns-then-x-2 c = below c.args.x c.if-x.false c.if-x-2.true
 
-returns-3 : tie.Need-returns-3
+pub returns-else-x-2 : goal.returns-else-x-2
 unfolding neg of_bits
-returns-3 c = between c.before.before.args.x c.before.if1.false c.if2.false
-
-pub is-out-of-reach-spec : {M : Type 1} → statement M
-is-out-of-reach-spec = tie.close (tie.spec returns returns-2 returns-3)
+returns-else-x-2 c = between c.args.x c.if-x.false c.if-x-2.false

@@ -3,12 +3,10 @@ use mathlib.Core.Path.{◌≡◌, sym, ap, ◌∙◌, subst}
 use Prim.Native.Nat.{ℕ, suc, ◌+◌, ◌-◌, ◌*◌, ◌/◌, ◌^◌, ◌≤◌, ◌<◌}
 use native.Mathlib.Nat.{div-one, pow-suc, mul-le-mul}
 use native.Mathlib.Omega.{arith}
-use borrow.Author.Rules.{rules}
 use lib.Pow.{pow_mono, shr-shr}
 use Rattle.vectors.specs.Root.{floor_root}
 use Rattle.vectors.proofs.root.Whole.{mul-lt-pow, next-square, odd-square, Floor, floor-is}
-use Rattle.spacing.proofs.whole_root.whole_root.Statement.{statement}
-use Rattle.spacing.proofs.whole_root.whole_root.Tie as tie
+use Rattle.spacing.proofs.whole_root.whole_root.Goals as goal
 
 -- one digit more: t is the whole root of a quarter of a
 digit-1 : (a t : ℕ) → Floor (a / 4) t → (2 * t + 1) * (2 * t + 1) ≤ a → Floor a (2 * t + 1)
@@ -45,100 +43,52 @@ grows left r some few h =
 small : (left r : ℕ) → 0 < left → left ≤ 32 → r + 1 ≤ 2 ^ (32 - left) → 2 * r + 1 < 2 ^ 32
 small left r some few h = let most : 2 ^ (32 - left) ≤ 2 ^ 31 = pow_mono {i = 32 - left} {j = 31} (omega arith) in omega arith
 
-abbrev invariant-loop : tie.invariant-loop
-invariant-loop square root₀ left₀ root left = (left ≤ 32) × (root + 1 ≤ 2 ^ (32 - left)) × Floor (square / 2 ^ (2 * left)) root
-
-abbrev decreases-loop : tie.decreases-loop
-decreases-loop square root₀ left₀ root left = left
-
 -- in a turn: the next guess has at most 32 digits, and the root so far is that of a quarter of the digits then taken
-taken : (c : tie.In-loop invariant-loop decreases-loop) → let at = c.before.loop in
-    (2 * at.root + 1 < 2 ^ 32) × Floor (c.before.before.args.square / 2 ^ (2 * (at.left - 1)) / 4) at.root
+taken : (c : goal.In-loop-left) → let at = c.loop-left in
+    (2 * at.root + 1 < 2 ^ 32) × Floor (c.args.square / 2 ^ (2 * (at.left - 1)) / 4) at.root
 taken c =
-    let at = c.before.loop in
-    let square = c.before.before.args.square in
-    let some = c.loop-test.true in
+    let at = c.loop-left in
+    let square = c.args.square in
+    let some = c.loop-left-test.true in
     (small at.left at.root some at.invariant.0 at.invariant.1, subst (λ (a : ℕ). Floor a at.root) (quarter square at.left some) at.invariant.2)
 
-loop-holds : tie.Need-loop-init invariant-loop decreases-loop
-loop-holds c = (omega arith, omega arith, (omega arith, omega arith))
+pub loop-left-init : goal.loop-left-init
+loop-left-init c = (omega arith, omega arith, (omega arith, omega arith))
 
-sub-left : tie.Need-overflow-sub-left invariant-loop decreases-loop
-sub-left c = search rules
+pub overflow_mul-next : goal.overflow_mul-next
+overflow_mul-next c = record { fits = omega (arith, (taken c).0) }
 
-mul_next : tie.Need-overflow-mul-next invariant-loop decreases-loop
-mul_next c = record { fits = omega (arith, (taken c).0) }
+pub overflow_add-next : goal.overflow_add-next
+overflow_add-next c = record { fits = omega (arith, (taken c).0) }
 
-add-next : tie.Need-overflow-add-next invariant-loop decreases-loop
-add-next c = record { fits = omega (arith, (taken c).0) }
+pub overflow_mul-next-in-loop-left : goal.overflow_mul-next-in-loop-left
+overflow_mul-next-in-loop-left c = record { fits = mul-lt-pow 32 32 (taken c).0 (taken c).0 }
 
-mul-if1 : tie.Need-overflow-mul-if1 invariant-loop decreases-loop
-mul-if1 c = record { fits = mul-lt-pow 32 32 (taken c).0 (taken c).0 }
-
-mul-if1-2 : tie.Need-overflow-mul-if1-2 invariant-loop decreases-loop
-mul-if1-2 c = search rules
-
-cast-if1 : tie.Need-overflow-cast-if1 invariant-loop decreases-loop
-cast-if1 c = search rules
-
-shr-if1 : tie.Need-overflow-shr-if1 invariant-loop decreases-loop
-shr-if1 c = search rules
-
-sub-root : tie.Need-overflow-sub-root invariant-loop decreases-loop
-sub-root c = search rules
-
-loop-less : tie.Need-loop-smaller invariant-loop decreases-loop
-loop-less c = search rules
-
-loop-again : tie.Need-loop-preserved invariant-loop decreases-loop
-loop-again c =
-    let at = c.before.before.loop in
-    let some = c.before.loop-test.true in (
+pub loop-left-preserved-then-next-square : goal.loop-left-preserved-then-next-square
+loop-left-preserved-then-next-square c =
+    let at = c.loop-left in
+    let some = c.loop-left-test.true in (
       omega (arith, at.invariant.0),
       omega (arith, grows at.left at.root some at.invariant.0 at.invariant.1),
-      digit-1 _ at.root (taken c.before).1 c.if1.true,
+      digit-1 _ at.root (taken c.before).1 c.if-next-square.true,
     )
 
-loop-less-2 : tie.Need-loop-smaller-2 invariant-loop decreases-loop
-loop-less-2 c = search rules
-
-loop-again-2 : tie.Need-loop-preserved-2 invariant-loop decreases-loop
-loop-again-2 c =
-    let at = c.before.before.loop in
-    let some = c.before.loop-test.true in (
+pub loop-left-preserved : goal.loop-left-preserved
+loop-left-preserved c =
+    let at = c.loop-left in
+    let some = c.loop-left-test.true in (
       omega (arith, at.invariant.0),
       omega (arith, grows at.left at.root some at.invariant.0 at.invariant.1),
-      subst (Floor _) (less_one at.root) (digit-0 _ at.root (taken c.before).1 c.if1.false),
+      subst (Floor _) (less_one at.root) (digit-0 _ at.root (taken c.before).1 c.if-next-square.false),
     )
   where
     less_one : (r : ℕ) → 2 * r ≡ 2 * r + 1 - 1
     less_one r = omega arith
 
-returns : tie.Need-returns invariant-loop decreases-loop
+pub returns : goal.returns
 returns c =
-    let at = c.before.loop in
-    let none : at.left ≡ 0 = omega (arith, c.loop-test.false) in
-    let square = c.before.before.args.square in
+    let at = c.loop-left in
+    let none : at.left ≡ 0 = omega (arith, c.loop-left-test.false) in
+    let square = c.args.square in
     let all : square / 2 ^ (2 * at.left) ≡ square = ap (λ (n : ℕ). square / 2 ^ (2 * n)) none ∙ div-one square in
-    only square at.root (floor_root 32 square) (subst (λ (a : ℕ). Floor a at.root) all at.invariant.2) (floor-is 32 square c.before.before.ranges.square.fits)
-
-pub whole-root-spec : {M : Type 1} → statement M
-whole-root-spec =
-    tie.close
-    (tie.spec
-    invariant-loop
-    decreases-loop
-    loop-holds
-    sub-left
-    mul_next
-    add-next
-    mul-if1
-    mul-if1-2
-    cast-if1
-    shr-if1
-    sub-root
-    loop-less
-    loop-again
-    loop-less-2
-    loop-again-2
-    returns)
+    only square at.root (floor_root 32 square) (subst (λ (a : ℕ). Floor a at.root) all at.invariant.2) (floor-is 32 square c.ranges.square.fits)

@@ -16,9 +16,10 @@ use Rattle.spacing.specs.declared.Report.{Report}
 use Rattle.spacing.specs.declared.Tally.{Tally}
 use Rattle.spacing.specs.Answers.{most_frames}
 use Rattle.spacing.specs.Tally.{within_reach, frame_answer, agents_of, report_with, tally_after, stepped_by}
-use borrow.Author.Rules.{rules}
-use Rattle.spacing.proofs.tallies.stepped.Statement.{statement}
+use Rattle.spacing.proofs.tallies.stepped.Lts as lts
 use Rattle.spacing.proofs.tallies.stepped.Tie as tie
+use Rattle.spacing.proofs.tallies.stepped.Reads as reads
+use Rattle.spacing.proofs.tallies.stepped.Goals as goal
 
 -- a frame that is taken has the right length, comes in time and is within reach
 let_through : (agents frames : ℕ) (frame : List Float) → frame_answer agents frames frame ≡ Done → (length frame ≡ 3 * agents) × (frames < most_frames) × (within_reach 0 frame ≡ Done)
@@ -48,50 +49,19 @@ module _ (tally : Tally) (frame : List Float) (answer : Answer) (is : answer ≡
         i;
   }
 
-answer-is : (c : tie.After-frame-answer) → let start = c.before.before.before.before in
-    c.frame-answer.result ≡ frame_answer (agents_of start.args.tally) start.args.tally.report.frames start.args.frame.now
+answer-is : (c : lts.After-frame_answer tie.the-claims reads.Pre reads.Post) → c.frame_answer-answer.result ≡ frame_answer (agents_of c.args.tally) c.args.tally.report.frames c.args.frame.now
 answer-is c =
-    let start = c.before.before.before.before in
-    c.frame-answer.ensures ∙ ap (λ (a : ℕ). frame_answer a start.args.tally.report.frames start.args.frame.now) c.before.agent-count.ensures
+    c.frame_answer-answer.ensures ∙ ap (λ (a : ℕ). frame_answer a c.args.tally.report.frames c.args.frame.now) c.agent_count-agents.ensures
 
-agent-count-requires : tie.Need-agent-count-requires
-agent-count-requires c κs = search rules
+pub returns-in_default : goal.returns-in_default
+returns-in_default c =
+    refused-is c.args.tally c.args.frame.now c.frame_answer-answer.result (answer-is c.before.before) _ c.in_default.is
 
-frame-answer-requires : tie.Need-frame-answer-requires
-frame-answer-requires c κs = search rules
+pub report_with-requires : goal.report_with-requires
+report_with-requires c =
+    let passed = let_through c.agent_count-agents.result c.args.tally.report.frames c.args.frame.now (sym c.frame_answer-answer.ensures ∙ c.in-Done.is) in
+    (record { few = omega (arith, c.agent_count-agents.ensures); long = passed.0; within = passed.2 }, passed.1)
 
-enum_told : tie.Need-enum-told
-enum_told c = search rules
-
-enum-told-2 : tie.Need-enum-told-2
-enum-told-2 c = search rules
-
-returns : tie.Need-returns
+pub returns : goal.returns
 returns c =
-    let start = c.before.before.before.before.before.before in
-    refused-is start.args.tally start.args.frame.now c.before.before.frame-answer.result (answer-is c.before.before) _ c.enum-told2.given.1
-
-report-with-requires : tie.Need-report-with-requires
-report-with-requires c κs =
-    let answered = c.before.before in
-    let start = answered.before.before.before.before in
-    let passed = let_through answered.before.agent-count.result start.args.tally.report.frames start.args.frame.now (sym answered.frame-answer.ensures ∙ c.enum_told.given.1) in
-    (record { few = omega (arith, answered.before.agent-count.ensures); long = passed.0; within = passed.2 }, passed.1)
-
-returns-2 : tie.Need-returns-2
-returns-2 c =
-    let answered = c.before.before.before in
-    let start = answered.before.before.before.before in
-    done-is start.args.tally start.args.frame.now answered.frame-answer.result (answer-is answered) c.report-with.result c.before.enum_told.given.1 c.report-with.ensures
-
-pub stepped-spec : {M : Type 1} → statement M
-stepped-spec =
-    tie.close
-    (tie.spec
-    agent-count-requires
-    frame-answer-requires
-    enum_told
-    enum-told-2
-    returns
-    report-with-requires
-    returns-2)
+    done-is c.args.tally c.args.frame.now c.frame_answer-answer.result (answer-is c.before.before.before) c.report_with.result c.in-Done.is c.report_with.ensures

@@ -16,27 +16,10 @@ use Rattle.spacing.specs.Tally.{within_reach, fullest, report_with}
 use Rattle.spacing.specs.parts.Pairs.{with_pairs, start_at}
 use Rattle.spacing.specs.parts.Tally.{bound_of, smallest_after}
 use Rattle.spacing.proofs.Tracked.{all-within, pairs_below, smallest-tracked}
-use borrow.Author.Rules.{rules}
-use Rattle.spacing.proofs.tallies.report_with.Statement.{statement}
-use Rattle.spacing.proofs.tallies.report_with.Tie as tie
+use Rattle.spacing.proofs.tallies.report_with.Goals as goal
 
-bound-of-requires : tie.Need-bound-of-requires
-bound-of-requires c κs = search rules
-
-mul-all-pairs : tie.Need-overflow-mul-all-pairs
-mul-all-pairs c = record { fits = mul-lt-pow 32 32 c.before.before.ranges.limit.fits c.before.before.ranges.limit.fits }
-
-all-pairs-requires : tie.Need-all-pairs-requires
-all-pairs-requires c κs = search rules
-
-add-t10 : tie.Need-overflow-add-t10
-add-t10 c = search rules
-
-smallest-after-requires : tie.Need-smallest-after-requires
-smallest-after-requires c κs = search rules
-
-sum-requires : tie.Need-sum-requires
-sum-requires c κs = search rules
+pub overflow_mul-limit : goal.overflow_mul-limit
+overflow_mul-limit c = record { fits = mul-lt-pow 32 32 c.ranges.limit.fits c.ranges.limit.fits }
 
 module _ (limit : ℕ) (report : Report) (frame : List Float) (within : within_reach 0 frame ≡ Done) (bound : ℕ) (bound-is : bound ≡ bound_of report.smallest) (r : Running)
     (r-is : r ≡ with_pairs (limit * limit) (start_at bound) 0 (positions frame)) where
@@ -57,22 +40,7 @@ module _ (limit : ℕ) (report : Report) (frame : List Float) (within : within_r
     below = (b ∙ ap (λ (n : ℕ). fullest (report.below + n)) below-is) i;
   }
 
-returns : tie.Need-returns
+pub returns : goal.returns
 returns c =
-    let pairing = c.before.before.before in
-    let bounding = pairing.before in
-    let start = bounding.before.before in
-    report-is start.args.limit start.args.report start.args.frame.now start.requires.0.within bounding.bound_of.result bounding.bound_of.ensures pairing.all-pairs.result pairing.all-pairs.ensures
-    c.before.smallest-after.result c.sum.result c.before.smallest-after.ensures c.sum.ensures
-
-pub report-with-spec : {M : Type 1} → statement M
-report-with-spec =
-    tie.close
-    (tie.spec
-    bound-of-requires
-    mul-all-pairs
-    all-pairs-requires
-    add-t10
-    smallest-after-requires
-    sum-requires
-    returns)
+    report-is c.args.limit c.args.report c.args.frame.now c.requires.0.within c.bound_of.result c.bound_of.ensures c.all_pairs-running.result c.all_pairs-running.ensures
+    c.smallest_after.result c.sum.result c.smallest_after.ensures c.sum.ensures
