@@ -6,106 +6,108 @@
 // first write that fails ends the run. `--help` (`help.rt`) says all this on one screen.
 //
 //     root_vectors [FILE ..]     each list in turn; `-` is standard input
+#![tactic(auto)]
+
 mod help;
 mod pairs;
 mod report;
 
-use console::arguments::ask_for_help;
+use console::arguments::{NAME_BYTES, argument, ask_for_help};
 use console::inputs;
 use pairs::Line;
 use report::{Tally, one_more};
+use std::io::{Input, Read, Result};
+use std::rt::{Env, Files};
 use vectors::number::{from_word, to_word};
 use vectors::root::root;
 
 // The most bytes of a list, which `report` says too. There is room for one more, to know a longer one by.
 const MOST_BYTES: usize = 4096;
 
-fn run_pair(argument: u32, wanted: u32, tally: Tally) -> Tally {
+fn run_pair(rt: &impl Print, argument: u32, wanted: u32, tally: Tally) -> Result<Tally> {
     let got = to_word(root(from_word(argument)));
-    report::counted(
-        tally,
-        got == wanted,
-        report::say_pair(argument, wanted, got),
-    )
+    report::say_pair(rt, argument, wanted, got)?;
+    Ok(report::counted(tally, got == wanted))
 }
 
-fn run_line(name: &[u8], number: u64, text: &[u8], tally: Tally) -> Tally {
+fn run_line(rt: &impl Print, name: &[u8], number: u64, text: &[u8], tally: Tally) -> Result<Tally> {
     match pairs::read_line(text) {
-        Line::Pair(argument, wanted) => run_pair(argument, wanted, tally),
-        Line::Comment => tally,
-        Line::Malformed => report::after(tally, report::say_malformed(name, number)),
+        Line::Pair(argument, wanted) => run_pair(rt, argument, wanted, tally),
+        Line::Comment => Ok(tally),
+        Line::Malformed => {
+            report::say_malformed(rt, name, number)?;
+            Ok(tally)
+        }
     }
 }
 
-fn run_text(name: &[u8], text: &[u8], tally: Tally) -> Tally {
+fn run_text(rt: &impl Print, name: &[u8], text: &[u8], tally: Tally) -> Result<Tally> {
     let mut tally = tally;
     let mut number: u64 = 0;
     let mut at = 0;
     while at < text.len() {
         let end = at + lines::length_until(&text[at..], b'\n');
         number = one_more(number);
-        tally = run_line(name, number, &text[at..end], tally);
-        if !tally.goes_on {
-            return tally;
-        }
+        tally = run_line(rt, name, number, &text[at..end], tally)?;
         at = end + 1;
     }
-    tally
+    Ok(tally)
 }
 
-fn run_input(input: i32, name: &[u8], tally: Tally) -> Tally {
+fn run_input(
+    rt: &(impl Print + Eprint),
+    input: &mut impl Read,
+    name: &[u8],
+    tally: Tally,
+) -> Result<Tally> {
     let mut space = [0u8; MOST_BYTES + 1];
     let filled = inputs::fill(input, &mut space);
-    if filled.has_failed {
-        return report::after(tally, report::say_unreadable(name));
+    if let Some(reason) = &filled.failure {
+        report::say_unreadable(rt, name, reason)?;
+        return Ok(tally);
     }
     let bytes = filled.bytes;
     if MOST_BYTES < bytes {
-        return report::after(tally, report::say_too_long(name));
+        report::say_too_long(rt, name)?;
+        return Ok(tally);
     }
     let before = tally.pairs;
-    let after = run_text(name, &space[..bytes], tally);
-    report::after_list(after, name, before)
+    let after = run_text(rt, name, &space[..bytes], tally)?;
+    report::after_list(rt, after, name, before)?;
+    Ok(after)
 }
 
-fn run_file(name: &[u8], tally: Tally) -> Tally {
-    let input = inputs::open(name);
-    if input < 0 {
-        return report::after(tally, report::say_unreadable(name));
+fn run_file(
+    rt: &(impl Print + Eprint + Input + Files),
+    name: &[u8],
+    tally: Tally,
+) -> Result<Tally> {
+    match inputs::open(rt, name) {
+        Ok(mut input) => run_input(rt, &mut input, name, tally),
+        Err(reason) => {
+            report::say_unreadable(rt, name, &reason)?;
+            Ok(tally)
+        }
     }
-    let after = run_input(input, name, tally);
-    inputs::close(input, name);
-    after
 }
 
 // An argument that is too long for a name is read as an empty one, which no file has.
-fn run_argument(index: usize, tally: Tally) -> Tally {
-    let mut space = io::buffer();
-    let length = os::arg(index, &mut space);
-    run_file(&space[..length], tally)
-}
-
-fn run_arguments(count: usize) -> Tally {
+fn run_arguments(rt: &(impl Print + Eprint + Input + Files + Env)) -> Result<Tally> {
+    let mut space = [0u8; NAME_BYTES];
     let mut tally = report::none();
-    let mut index = 1;
-    while index < count {
-        tally = run_argument(index, tally);
-        if !tally.goes_on {
-            return tally;
-        }
-        index += 1;
+    for index in 1..usize::MAX {
+        let Some(length) = argument(rt, index, &mut space) else {
+            return Ok(tally);
+        };
+        tally = run_file(rt, &space[..length], tally)?;
     }
-    tally
+    Ok(tally)
 }
 
-fn main() {
-    let count = os::arg_count();
-    if ask_for_help(count) {
-        help::say_help();
-        return;
+fn main(rt: HostRuntime) -> Result<()> {
+    if ask_for_help(&rt) {
+        return help::say_help(&rt);
     }
-    let tally = run_arguments(count);
-    if tally.goes_on {
-        report::say_tally(tally);
-    }
+    let tally = run_arguments(&rt)?;
+    report::say_tally(&rt, tally)
 }

@@ -5,7 +5,7 @@ ghost use Rattle.root_vectors.specs.Pairs.{pair_of, line_of};
 
 use lines::Number;
 
-#[derive(Drop)]
+#[derive(Clone, Copy)]
 pub enum Line {
     Pair(u32, u32),
     Comment,
@@ -26,6 +26,7 @@ fn pair(argument: Number, wanted: Number) -> Line
 }
 
 // What a line without its end says.
+#[tactic(auto, unfolding(crate::specs::Pairs::line_of))]
 pub fn read_line(text: &[u8]) -> Line
     ensures { result ≡ line_of text.now }
 {
