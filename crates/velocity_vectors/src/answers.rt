@@ -12,7 +12,7 @@ use vectors::number::to_word;
 pub(crate) const NONE: usize = usize::MAX;
 
 // Of a refusal the velocity is three +0s.
-#[derive(Drop)]
+#[derive(Clone, Copy)]
 pub struct Answer {
     pub number: usize,
     pub place: usize,
@@ -23,7 +23,7 @@ pub struct Answer {
     pub z: u32,
 }
 
-#[derive(Drop)]
+#[derive(Clone, Copy)]
 pub enum Wanted {
     Is(Answer),
     Malformed,

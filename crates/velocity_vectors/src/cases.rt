@@ -10,7 +10,7 @@ use vectors::number::from_word;
 
 // There is room for the request's 17 numbers and 65 neighbours, two more than a call takes, and as much for
 // planes. What each field is for is said where a line sets it.
-#[derive(Drop)]
+#[derive(Clone, Copy)]
 pub struct Case {
     pub numbers: [f32; 537],
     pub length: usize,
@@ -21,7 +21,7 @@ pub struct Case {
 }
 
 // The case that a line leaves, and whether the line asked for what a case can't have.
-#[derive(Drop)]
+#[derive(Clone, Copy)]
 pub struct Next {
     pub case: Case,
     pub malformed: bool,

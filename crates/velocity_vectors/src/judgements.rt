@@ -8,7 +8,7 @@ use super::scratch::first_different;
 
 // What is different is the answer that was got, or the number of scratch at an index: where scratch is as wanted, its
 // length.
-#[derive(Drop)]
+#[derive(Clone, Copy)]
 pub enum Judgement {
     Same,
     Different(Answer, usize),

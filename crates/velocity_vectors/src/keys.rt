@@ -2,7 +2,7 @@
 // a line, a key and a field are, in the crate `lines`.
 use lines::Fields;
 
-#[derive(Drop)]
+#[derive(Clone, Copy)]
 pub enum Key {
     Case,
     At,

@@ -22,7 +22,9 @@
 //     free W W W           the velocity
 //     relaxed K W W W      the velocity, relaxed from plane K
 //     refused N P          the refusal N, with the place P
-ghost use Rattle.std.specs.Prelude.{◌≤◌, length};
+#![tactic(auto)]
+
+ghost use Rattle.std.specs.Prelude.{◌≤◌, length, IfOk};
 ghost use Rattle.velocity_vectors.specs.Cases.{Sized, Kept};
 
 mod answers;
@@ -36,7 +38,7 @@ mod scratch;
 use answers::{Answer, Wanted};
 use avoidance::velocity::velocity;
 use cases::Case;
-use console::arguments::ask_for_help;
+use console::arguments::{NAME_BYTES, argument, ask_for_help};
 use console::{Line, inputs};
 use judgements::Judgement;
 use keys::Key;
@@ -44,13 +46,15 @@ use lines::Fields;
 use planes::lent::{ReadRequest, read_request};
 use report::{Tally, one_more};
 use requests::Request;
+use std::io::{Input, Read, Result};
+use std::rt::{Env, Files};
 
 // The most bytes of a file, which `report` says too. There is room for one more, to know a longer one by.
 const MOST_BYTES: usize = 65536;
 
 // What the lines so far have come to. A case starts from `standard`, which is what stood before the first
 // one, and is open until its answer, which is said behind its name, in `line`.
-#[derive(Drop)]
+#[derive(Clone, Copy)]
 struct State {
     standard: Case,
     case: Case,
@@ -95,17 +99,16 @@ fn run(case: Case, wanted: Answer) -> Judgement
 }
 
 // Ends a case that has no answer.
-fn close(state: State) -> State
+fn close(rt: &impl Print, state: State) -> Result<State>
     requires { Kept state }
-    ensures { Kept result }
+    ensures { IfOk result Kept }
 {
     let mut state = state;
     if state.open {
-        let tally = report::unanswered(state.tally, state.line);
-        state.tally = tally;
+        state.tally = report::unanswered(rt, state.tally, state.line)?;
         state.open = false;
     }
-    state
+    Ok(state)
 }
 
 // The first case finds what stands before it.
@@ -124,23 +127,16 @@ fn begun(state: State) -> State
 }
 
 // `case NAME`: the name is kept for the line of its answer.
-fn start(name: &[u8], state: State) -> State
+fn start(rt: &impl Print, name: &[u8], state: State) -> Result<State>
     requires { Kept state }
-    ensures { Kept result }
+    ensures { IfOk result Kept }
 {
-    let mut state = begun(close(state));
-    if !state.tally.goes_on {
-        return state;
-    }
+    let mut state = begun(close(rt, state)?);
     let standard = state.standard;
     state.case = standard;
     state.open = true;
-    let named = report::with_name(Line::empty(), name);
-    let line = named.line.text(b": ");
-    state.line = line;
-    let tally = report::after(state.tally, named.goes_on);
-    state.tally = tally;
-    state
+    state.line = report::with_name(rt, Line::empty(), name)?.text(b": ");
+    Ok(state)
 }
 
 fn malformed(state: State) -> State
@@ -152,19 +148,19 @@ fn malformed(state: State) -> State
     state
 }
 
-fn answer(wanted: Answer, state: State) -> State
+fn answer(rt: &impl Print, wanted: Answer, state: State) -> Result<State>
     requires { Kept state }
-    ensures { Kept result }
+    ensures { IfOk result Kept }
 {
     let mut state = state;
     if !state.open {
-        return malformed(state);
+        return Ok(malformed(state));
     }
     let named = answers::naming(wanted, state.case.unseen);
-    let tally = report::judged(state.tally, state.line, run(state.case, named));
-    state.tally = tally;
+    let judgement = run(state.case, named);
+    state.tally = report::judged(rt, state.tally, state.line, judgement)?;
     state.open = false;
-    state
+    Ok(state)
 }
 
 // After an answer there is nothing to change until the next case.
@@ -187,54 +183,53 @@ fn change(key: Key, fields: Fields, state: State) -> State
     state
 }
 
-fn run_fields(key: Key, fields: Fields, state: State) -> State
+fn run_fields(rt: &impl Print, key: Key, fields: Fields, state: State) -> Result<State>
     requires { Kept state }
-    ensures { Kept result }
+    ensures { IfOk result Kept }
 {
     if !keys::is_formed(key, fields) {
-        return malformed(state);
+        return Ok(malformed(state));
     }
     match answers::read_wanted(key, fields) {
-        Wanted::Is(wanted) => answer(wanted, state),
-        Wanted::Malformed => change(key, fields, state),
+        Wanted::Is(wanted) => answer(rt, wanted, state),
+        Wanted::Malformed => Ok(change(key, fields, state)),
     }
 }
 
-fn run_key(key: Key, text: &[u8], state: State) -> State
+fn run_key(rt: &impl Print, key: Key, text: &[u8], state: State) -> Result<State>
     requires { Kept state }
-    ensures { Kept result }
+    ensures { IfOk result Kept }
 {
     if let Key::Case = key {
-        start(text, state)
+        start(rt, text, state)
     } else {
-        run_fields(key, lines::read_fields(text), state)
+        run_fields(rt, key, lines::read_fields(text), state)
     }
 }
 
 // Says that a line is malformed.
-fn said(name: &[u8], number: u64, state: State) -> State
+fn said(rt: &impl Print, name: &[u8], number: u64, state: State) -> Result<State>
     requires { Kept state }
-    ensures { Kept result }
+    ensures { IfOk result Kept }
 {
     let mut state = state;
-    let tally = report::malformed(state.tally, name, number);
-    state.tally = tally;
+    state.tally = report::malformed(rt, state.tally, name, number)?;
     state.malformed = false;
-    state
+    Ok(state)
 }
 
-fn run_line(name: &[u8], number: u64, text: &[u8], state: State) -> State
+fn run_line(rt: &impl Print, name: &[u8], number: u64, text: &[u8], state: State) -> Result<State>
     requires { Kept state }
-    ensures { Kept result }
+    ensures { IfOk result Kept }
 {
     if lines::is_comment(text) {
-        return state;
+        return Ok(state);
     }
-    let state = run_key(keys::read_key(text), lines::after_key(text), state);
+    let state = run_key(rt, keys::read_key(text), lines::after_key(text), state)?;
     if state.malformed {
-        said(name, number, state)
+        said(rt, name, number, state)
     } else {
-        state
+        Ok(state)
     }
 }
 
@@ -253,76 +248,74 @@ fn unstarted(tally: Tally) -> State
     }
 }
 
-fn run_text(name: &[u8], text: &[u8], tally: Tally) -> Tally {
+fn run_text(rt: &impl Print, name: &[u8], text: &[u8], tally: Tally) -> Result<Tally> {
     let mut state = unstarted(tally);
     let mut number: u64 = 0;
     let mut at = 0;
     while at < text.len() {
         let end = at + lines::length_until(&text[at..], b'\n');
         number = one_more(number);
-        state = run_line(name, number, &text[at..end], state);
-        if !state.tally.goes_on {
-            return state.tally;
-        }
+        state = run_line(rt, name, number, &text[at..end], state)?;
         at = end + 1;
     }
-    let last = close(state);
-    last.tally
+    let last = close(rt, state)?;
+    Ok(last.tally)
 }
 
-fn run_input(input: i32, name: &[u8], tally: Tally) -> Tally {
+fn run_input(
+    rt: &(impl Print + Eprint),
+    input: &mut impl Read,
+    name: &[u8],
+    tally: Tally,
+) -> Result<Tally> {
     let mut space = [0u8; MOST_BYTES + 1];
     let filled = inputs::fill(input, &mut space);
-    if filled.has_failed {
-        return report::after(tally, report::say_unreadable(name));
+    if let Some(reason) = &filled.failure {
+        report::say_unreadable(rt, name, reason)?;
+        return Ok(tally);
     }
     let bytes = filled.bytes;
     if MOST_BYTES < bytes {
-        return report::after(tally, report::say_too_long(name));
+        report::say_too_long(rt, name)?;
+        return Ok(tally);
     }
     let before = tally.cases;
-    let after = run_text(name, &space[..bytes], tally);
-    report::after_file(after, name, before)
+    let after = run_text(rt, name, &space[..bytes], tally)?;
+    report::after_file(rt, after, name, before)?;
+    Ok(after)
 }
 
-fn run_file(name: &[u8], tally: Tally) -> Tally {
-    let input = inputs::open(name);
-    if input < 0 {
-        return report::after(tally, report::say_unreadable(name));
+fn run_file(
+    rt: &(impl Print + Eprint + Input + Files),
+    name: &[u8],
+    tally: Tally,
+) -> Result<Tally> {
+    match inputs::open(rt, name) {
+        Ok(mut input) => run_input(rt, &mut input, name, tally),
+        Err(reason) => {
+            report::say_unreadable(rt, name, &reason)?;
+            Ok(tally)
+        }
     }
-    let after = run_input(input, name, tally);
-    inputs::close(input, name);
-    after
 }
 
 // An argument that is too long for a name is read as an empty one, which no file has.
-fn run_argument(index: usize, tally: Tally) -> Tally {
-    let mut space = io::buffer();
-    let length = os::arg(index, &mut space);
-    run_file(&space[..length], tally)
-}
-
-fn run_arguments(count: usize) -> Tally {
+fn run_arguments(rt: &(impl Print + Eprint + Input + Files + Env)) -> Result<Tally> {
+    let mut space = [0u8; NAME_BYTES];
     let mut tally = report::none();
-    let mut index = 1;
-    while index < count {
-        tally = run_argument(index, tally);
-        if !tally.goes_on {
-            return tally;
-        }
-        index += 1;
+    for index in 1..usize::MAX {
+        let Some(length) = argument(rt, index, &mut space) else {
+            return Ok(tally);
+        };
+        tally = run_file(rt, &space[..length], tally)?;
     }
-    tally
+    Ok(tally)
 }
 
-fn main() {
-    let count = os::arg_count();
-    if ask_for_help(count) {
-        help::say_help();
-        return;
+fn main(rt: HostRuntime) -> Result<()> {
+    if ask_for_help(&rt) {
+        return help::say_help(&rt);
     }
-    let tally = run_arguments(count);
-    if tally.goes_on {
-        report::say_tally(tally);
-    }
+    let tally = run_arguments(&rt)?;
+    report::say_tally(&rt, tally)
 }

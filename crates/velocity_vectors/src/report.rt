@@ -1,28 +1,19 @@
 // What is printed, and the counts of it. A line is put together first and written at once, unless a long name stands in
-// it. Each `say` answers whether its line could be written.
+// it. A line that could not be written is an error, which ends the run.
 use super::answers::Answer;
 use super::judgements::Judgement;
 use console::Line;
-use console::output::{complain, complain_of, say};
+use console::output::{complain_of, say};
+use std::io::{Error, ErrorKind, Result};
 
 // The longest name that leaves room in a `Line` for what is said with it.
 const NAME_BYTES: usize = 256;
 
-// The run goes on until a line can't be written, which `console` says on standard error.
-#[derive(Drop)]
+#[derive(Clone, Copy)]
 pub struct Tally {
     pub cases: u64,
     pub different: u64,
     pub malformed: u64,
-    pub goes_on: bool,
-}
-
-// A line up to the name in it. Where the name is long, that is written already, if it could be, and what follows is
-// put together alone.
-#[derive(Drop)]
-pub struct Named {
-    pub line: Line,
-    pub goes_on: bool,
 }
 
 pub(crate) fn none() -> Tally {
@@ -30,7 +21,6 @@ pub(crate) fn none() -> Tally {
         cases: 0,
         different: 0,
         malformed: 0,
-        goes_on: true,
     }
 }
 
@@ -39,39 +29,24 @@ pub(crate) fn one_more(count: u64) -> u64 {
     if count < u64::MAX { count + 1 } else { count }
 }
 
-// The tally after a line, which could be written or not.
-pub(crate) fn after(tally: Tally, is_written: bool) -> Tally {
-    let mut tally = tally;
-    tally.goes_on = is_written;
-    tally
-}
-
-// The same after the line of a case.
-fn after_case(tally: Tally, is_same: bool, is_written: bool) -> Tally {
+// The tally after a case.
+fn after_case(tally: Tally, is_same: bool) -> Tally {
     let mut tally = tally;
     tally.cases = one_more(tally.cases);
     if !is_same {
         tally.different = one_more(tally.different);
     }
-    after(tally, is_written)
+    tally
 }
 
-pub(crate) fn with_name(line: Line, name: &[u8]) -> Named {
+// A line up to the name in it. Where the name is long, that is written already, and what follows is put together alone.
+pub(crate) fn with_name(rt: &impl Print, line: Line, name: &[u8]) -> Result<Line> {
     if name.len() <= NAME_BYTES {
-        return Named {
-            line: line.text(name),
-            goes_on: true,
-        };
+        return Ok(line.text(name));
     }
-    Named {
-        line: Line::empty(),
-        goes_on: line.say() && say(name),
-    }
-}
-
-fn say_end(named: Named, end: &[u8]) -> bool {
-    let line = named.line;
-    named.goes_on && line.text(end).say()
+    line.say(rt)?;
+    say(rt, name)?;
+    Ok(Line::empty())
 }
 
 fn with_number(line: Line, number: usize) -> Line {
@@ -108,60 +83,72 @@ fn is_same(judgement: Judgement) -> bool {
 }
 
 // Says how the case came out whose line is begun, and counts it.
-pub(crate) fn judged(tally: Tally, line: Line, judgement: Judgement) -> Tally {
-    let is_written = with_judgement(line, judgement).say();
-    after_case(tally, is_same(judgement), is_written)
+pub(crate) fn judged(
+    rt: &impl Print,
+    tally: Tally,
+    line: Line,
+    judgement: Judgement,
+) -> Result<Tally> {
+    with_judgement(line, judgement).say(rt)?;
+    Ok(after_case(tally, is_same(judgement)))
 }
 
 // The same for a case with no answer, which is different.
-pub(crate) fn unanswered(tally: Tally, line: Line) -> Tally {
-    after_case(tally, false, line.text(b"NO ANSWER\n").say())
+pub(crate) fn unanswered(rt: &impl Print, tally: Tally, line: Line) -> Result<Tally> {
+    line.text(b"NO ANSWER\n").say(rt)?;
+    Ok(after_case(tally, false))
 }
 
-fn say_malformed(name: &[u8], number: u64) -> bool {
+fn say_malformed(rt: &impl Print, name: &[u8], number: u64) -> Result<()> {
     let line = Line::empty()
         .text(b"malformed line ")
         .decimal(number)
         .text(b" of ");
-    say_end(with_name(line, name), b"\n")
+    with_name(rt, line, name)?.text(b"\n").say(rt)
 }
 
 // Says that a line is malformed, and counts it.
-pub(crate) fn malformed(tally: Tally, name: &[u8], number: u64) -> Tally {
+pub(crate) fn malformed(rt: &impl Print, tally: Tally, name: &[u8], number: u64) -> Result<Tally> {
+    say_malformed(rt, name, number)?;
     let mut tally = tally;
     tally.malformed = one_more(tally.malformed);
-    after(tally, say_malformed(name, number))
+    Ok(tally)
 }
 
-// The reason is said on standard error. It is that of the call just before.
-pub(crate) fn say_unreadable(name: &[u8]) -> bool {
-    complain_of(name);
-    say_end(with_name(Line::empty().text(b"unreadable "), name), b"\n")
+fn say_named(rt: &impl Print, start: &[u8], name: &[u8], end: &[u8]) -> Result<()> {
+    with_name(rt, Line::empty().text(start), name)?
+        .text(end)
+        .say(rt)
 }
 
-pub(crate) fn say_too_long(name: &[u8]) -> bool {
-    complain(name);
-    complain(b": has more than 65536 bytes\n");
-    let named = with_name(Line::empty().text(b"unreadable "), name);
-    say_end(named, b": has more than 65536 bytes\n")
+// The reason is said on standard error.
+pub(crate) fn say_unreadable(
+    rt: &(impl Print + Eprint),
+    name: &[u8],
+    reason: &Error,
+) -> Result<()> {
+    complain_of(rt, name, reason);
+    say_named(rt, b"unreadable ", name, b"\n")
 }
 
-// Says that a file had no case, where there are no more than `before` it. A run that stops says nothing any more.
-pub(crate) fn after_file(tally: Tally, name: &[u8], before: u64) -> Tally {
+pub(crate) fn say_too_long(rt: &(impl Print + Eprint), name: &[u8]) -> Result<()> {
+    let reason = Error::new(ErrorKind::FileTooLarge, "has more than 65536 bytes");
+    complain_of(rt, name, &reason);
+    say_named(rt, b"unreadable ", name, b": has more than 65536 bytes\n")
+}
+
+// Says that a file had no case, where there are no more than `before` it.
+pub(crate) fn after_file(rt: &impl Print, tally: Tally, name: &[u8], before: u64) -> Result<()> {
     if before < tally.cases {
-        return tally;
+        return Ok(());
     }
-    if !tally.goes_on {
-        return tally;
-    }
-    let named = with_name(Line::empty().text(b"NO CASES in "), name);
-    after(tally, say_end(named, b"\n"))
+    say_named(rt, b"NO CASES in ", name, b"\n")
 }
 
 // Where there was no case, the counts would all be 0 and look well.
-pub(crate) fn say_tally(tally: Tally) -> bool {
+pub(crate) fn say_tally(rt: &impl Print, tally: Tally) -> Result<()> {
     if tally.cases == 0 {
-        return say(b"NO CASES: nothing was compared\n");
+        return say(rt, b"NO CASES: nothing was compared\n");
     }
     Line::empty()
         .decimal(tally.cases)
@@ -170,5 +157,5 @@ pub(crate) fn say_tally(tally: Tally) -> bool {
         .text(b" different, ")
         .decimal(tally.malformed)
         .text(b" malformed lines\n")
-        .say()
+        .say(rt)
 }

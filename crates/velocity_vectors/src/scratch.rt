@@ -10,7 +10,7 @@ fn filled(fill: u32, index: usize) -> u32
     requires { index < 800 }
     ensures { result ≡ (fill + index) % 2 ^ 32 }
 {
-    std::num::wrapping_add_u32(fill, index as u32)
+    fill.wrapping_add(index as u32)
 }
 
 pub(crate) fn fill_with(scratch: &mut [f32], fill: u32)
@@ -24,6 +24,7 @@ pub(crate) fn fill_with(scratch: &mut [f32], fill: u32)
 }
 
 // The word that stands at `index` before the call.
+#[tactic(auto, unfolding(crate::specs::Scratch::word_before))]
 fn word_before(fill: u32, index: usize) -> u32
     requires { index < 800 }
     ensures { result ≡ word_before fill index }
@@ -32,6 +33,7 @@ fn word_before(fill: u32, index: usize) -> u32
 }
 
 // Whether a refusal's number is one of those that leave +0s.
+#[tactic(auto, unfolding(crate::specs::Scratch::clears))]
 fn clears(number: usize) -> bool
     ensures { result ≡ clears number }
 {
@@ -45,6 +47,7 @@ fn clears(number: usize) -> bool
 }
 
 // The word that is to stand at `index` after the answer `number` on `neighbours` neighbours.
+#[tactic(auto, unfolding(crate::specs::Scratch::wanted_word))]
 fn wanted_word(
     number: usize,
     neighbours: usize,
