@@ -1,8 +1,10 @@
 // What `--help` prints: one screen, of 24 lines and 79 characters.
 use console::output::say;
+use std::io::Result;
 
-pub(crate) fn say_help() {
+pub(crate) fn say_help(rt: &impl Print) -> Result<()> {
     say(
+        rt,
         b"usage: onetick [FILE ..]
 
 Runs one tick of half a second, by the near rule, of the fleet in each FILE in
@@ -23,5 +25,5 @@ The first call that is refused ends the tick, with one line instead:
 A file that can't be read gives the line \"unreadable\", and the reason on
 standard error. The first write that fails ends the run, and is said there too.
 ",
-    );
+    )
 }
