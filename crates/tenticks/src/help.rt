@@ -1,8 +1,10 @@
 // What `--help` prints: one screen, of 24 lines and 79 characters.
 use console::output::say;
+use std::io::Result;
 
-pub(crate) fn say_help() {
+pub(crate) fn say_help(rt: &impl Print) -> Result<()> {
     say(
+        rt,
         b"usage: tenticks [FILE ..]
 
 Runs ten ticks of half a second, by the near rule, of the fleet in a file, and
@@ -24,5 +26,5 @@ written then, and one line instead:
 A file that can't be read gives the line \"unreadable\", and the reason on
 standard error. The first write that fails ends the run, and is said there too.
 ",
-    );
+    )
 }
