@@ -26,7 +26,7 @@ pub(crate) const MOST_SCRATCH: usize = 1024;
 pub(crate) const MOST_BUFFER: usize = 8192;
 
 // The calls that hand a new fleet back and say their answer alone, each with its kind and what it takes.
-#[derive(Drop)]
+#[derive(Clone, Copy)]
 pub enum Change {
     // 1: the arguments, a record's words
     Add,
@@ -49,7 +49,7 @@ pub enum Change {
 }
 
 // Those that leave the fleet as it is.
-#[derive(Drop)]
+#[derive(Clone, Copy)]
 pub enum Look {
     // 4: the index
     Read,
@@ -59,7 +59,7 @@ pub enum Look {
     Record,
 }
 
-#[derive(Drop)]
+#[derive(Clone, Copy)]
 pub enum Call {
     Change(Change),
     Look(Look),
@@ -69,7 +69,7 @@ pub enum Call {
 }
 
 // What 22 words are read as.
-#[derive(Drop)]
+#[derive(Clone, Copy)]
 pub enum Form {
     Call(Call),
     Unknown,

@@ -1,8 +1,10 @@
 // What `--help` prints: one screen, of 24 lines and 79 characters.
 use console::output::say;
+use std::io::Result;
 
-pub(crate) fn say_help() -> bool {
+pub(crate) fn say_help(rt: &impl Print) -> Result<()> {
     say(
+        rt,
         b"usage: replay [FILE ..]
 
 Makes calls on a fleet and prints what each answers, for each FILE in turn, or

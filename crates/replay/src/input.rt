@@ -1,5 +1,5 @@
-// An input, read by its descriptor: the fleet file at its start, and the calls one at a time, each with the file that
-// follows it. Where a read fails, the reason is said on standard error, with the input's name.
+// An input: the fleet file at its start, and the calls one at a time, each with the file that follows it. Where a read
+// fails, the reason is said on standard error, with the input's name.
 ghost use Rattle.std.specs.Prelude.{◌≡◌, ◌+◌, ◌*◌, ◌≤◌};
 
 use super::calls;
@@ -7,19 +7,20 @@ use super::calls::{CALL_WORDS, Call, Form};
 use console::Filled;
 use console::inputs::fill;
 use console::output::complain_of;
+use std::io::Read;
 
 // The bytes of a call.
 pub(crate) const CALL_BYTES: usize = 88;
 
 // The fleet file's length in bytes.
-#[derive(Drop)]
+#[derive(Clone, Copy)]
 pub enum Length {
     Is(u32),
     Missing,
 }
 
 // What stands after the calls that were read.
-#[derive(Drop)]
+#[derive(Clone, Copy)]
 pub enum Item {
     Call(Call),
     End,
@@ -27,7 +28,7 @@ pub enum Item {
 }
 
 // The same, with the words of a call.
-#[derive(Drop)]
+#[derive(Clone, Copy)]
 pub struct Next {
     pub item: Item,
     pub words: [u32; CALL_WORDS],
@@ -47,64 +48,70 @@ fn word(a: u8, b: u8, c: u8, d: u8) -> u32
 }
 
 // Fills the space with what comes next, as far as there is any.
-fn take(input: i32, name: &[u8], space: &mut [u8]) -> Filled {
+fn take(rt: &impl Eprint, input: &mut impl Read, name: &[u8], space: &mut [u8]) -> Filled {
     let filled = fill(input, space);
-    if filled.has_failed {
-        complain_of(name);
+    if let Some(reason) = &filled.failure {
+        complain_of(rt, name, reason);
     }
     filled
 }
 
 // Whether as many bytes were left as the space takes.
-fn fills(input: i32, name: &[u8], space: &mut [u8]) -> bool {
+fn fills(rt: &impl Eprint, input: &mut impl Read, name: &[u8], space: &mut [u8]) -> bool {
     let wanted = space.len();
-    let taken = take(input, name, space);
+    let taken = take(rt, input, name, space);
     taken.bytes == wanted
 }
 
-pub(crate) fn file_length(input: i32, name: &[u8]) -> Length {
+pub(crate) fn file_length(rt: &impl Eprint, input: &mut impl Read, name: &[u8]) -> Length {
     let mut bytes = [0u8; 4];
-    if !fills(input, name, &mut bytes) {
+    if !fills(rt, input, name, &mut bytes) {
         return Length::Missing;
     }
     Length::Is(word(bytes[0], bytes[1], bytes[2], bytes[3]))
 }
 
 // Reads past so many bytes, and says whether they were there.
-fn pass_some(input: i32, name: &[u8], length: usize) -> bool
+fn pass_some(rt: &impl Eprint, input: &mut impl Read, name: &[u8], length: usize) -> bool
     requires { length ≤ 65536 }
 {
-    let mut space = io::large_buffer();
-    fills(input, name, &mut space[0..length])
+    let mut space = [0u8; 65536];
+    fills(rt, input, name, &mut space[0..length])
 }
 
 // The same for any number of bytes.
-fn pass_over(input: i32, name: &[u8], length: usize) -> bool {
+fn pass_over(rt: &impl Eprint, input: &mut impl Read, name: &[u8], length: usize) -> bool {
     let mut left = length;
     while 65536 < left {
-        if !pass_some(input, name, 65536) {
+        if !pass_some(rt, input, name, 65536) {
             return false;
         }
         left -= 65536;
     }
-    pass_some(input, name, left)
+    pass_some(rt, input, name, left)
 }
 
 // Reads a file of that length, as much of it as the space takes, and says whether it was all there.
-pub(crate) fn read_file(input: i32, name: &[u8], space: &mut [u8], length: usize) -> bool {
+pub(crate) fn read_file(
+    rt: &impl Eprint,
+    input: &mut impl Read,
+    name: &[u8],
+    space: &mut [u8],
+    length: usize,
+) -> bool {
     let most = space.len();
     if length <= most {
-        return fills(input, name, &mut space[0..length]);
+        return fills(rt, input, name, &mut space[0..length]);
     }
-    if !fills(input, name, space) {
+    if !fills(rt, input, name, space) {
         return false;
     }
-    pass_over(input, name, length - most)
+    pass_over(rt, input, name, length - most)
 }
 
 // What was found where fewer bytes were left than a call has.
 fn after_part(part: Filled) -> Item {
-    if part.has_failed {
+    if part.failure.is_some() {
         return Item::Unreadable;
     }
     if part.bytes == 0 {
@@ -125,19 +132,31 @@ fn words_of(bytes: &[u8; CALL_BYTES]) -> [u32; CALL_WORDS] {
 }
 
 // The call that the words are, once the file that follows it is read.
-fn item_in(input: i32, name: &[u8], words: [u32; CALL_WORDS], file: &mut [u8]) -> Item {
+fn item_in(
+    rt: &impl Eprint,
+    input: &mut impl Read,
+    name: &[u8],
+    words: [u32; CALL_WORDS],
+    file: &mut [u8],
+) -> Item {
     let Form::Call(call) = calls::form_of(words) else {
         return Item::Unreadable;
     };
-    if !read_file(input, name, file, calls::file_length(call, words) as usize) {
+    let length = calls::file_length(call, words) as usize;
+    if !read_file(rt, input, name, file, length) {
         return Item::Unreadable;
     }
     Item::Call(call)
 }
 
-pub(crate) fn read_next(input: i32, name: &[u8], file: &mut [u8]) -> Next {
+pub(crate) fn read_next(
+    rt: &impl Eprint,
+    input: &mut impl Read,
+    name: &[u8],
+    file: &mut [u8],
+) -> Next {
     let mut bytes = [0u8; CALL_BYTES];
-    let taken = take(input, name, &mut bytes);
+    let taken = take(rt, input, name, &mut bytes);
     if taken.bytes < CALL_BYTES {
         return Next {
             item: after_part(taken),
@@ -146,7 +165,7 @@ pub(crate) fn read_next(input: i32, name: &[u8], file: &mut [u8]) -> Next {
     }
     let words = words_of(&bytes);
     Next {
-        item: item_in(input, name, words, file),
+        item: item_in(rt, input, name, words, file),
         words,
     }
 }

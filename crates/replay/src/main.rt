@@ -14,6 +14,8 @@
 //
 // Calls are read one at a time, so there may be as many as a usize counts the bytes of. `--help` (`help.rt`) says all
 // this on one screen.
+#![tactic(auto)]
+
 mod calls;
 mod help;
 mod input;
@@ -21,142 +23,133 @@ mod making;
 mod report;
 
 use calls::Call;
-use console::arguments::{ask_for_help, is_standard_input};
+use console::arguments::{NAME_BYTES, argument, ask_for_help, is_standard_input};
 use console::inputs;
 use console::output::{complain_of, say_name};
 use fleet::Fleet;
 use input::{CALL_BYTES, Item, Length};
-use libc::STDIN_FILENO;
+use std::io::{Input, Read, Result};
+use std::rt::{Env, Files};
 
 // The last byte at which a call can start, and its end, with the longest file, still be counted.
 const LAST_START: usize = usize::MAX - CALL_BYTES - 0xFFFF_FFFF;
 
-// Each function below answers whether to go on: always, but after a write that failed.
-
 // What is said where the calls end, at that byte.
-fn end(item: Item, byte: usize, fleet: Fleet) -> bool {
+fn end(rt: &impl Print, item: Item, byte: usize, fleet: Fleet) -> Result<()> {
     if let Item::Unreadable = item {
-        if !report::say_unreadable(byte) {
-            return false;
-        }
+        report::say_unreadable(rt, byte)?;
     }
-    report::say_fleet(fleet)
+    report::say_fleet(rt, fleet)
 }
 
 // Where no fleet could be loaded.
-fn end_unread() -> bool {
-    end(Item::Unreadable, 0, Fleet::empty())
+fn end_unread(rt: &impl Print) -> Result<()> {
+    end(rt, Item::Unreadable, 0, Fleet::empty())
 }
 
 // Makes the calls that are left, the first of which is at the byte `start`.
-fn make_calls(input: i32, name: &[u8], fleet: Fleet, start: usize) -> bool {
+fn make_calls(
+    rt: &(impl Print + Eprint),
+    input: &mut impl Read,
+    name: &[u8],
+    fleet: Fleet,
+    start: usize,
+) -> Result<()> {
     // more than 64 records
-    let mut file = io::large_buffer();
+    let mut file = [0u8; 65536];
     let mut fleet = fleet;
     let mut at = start;
     while at <= LAST_START {
-        let next = input::read_next(input, name, &mut file);
+        let next = input::read_next(rt, input, name, &mut file);
         let item = next.item;
         let words = next.words;
         let Item::Call(call) = item else {
-            return end(item, at, fleet);
+            return end(rt, item, at, fleet);
         };
         match call {
             Call::Change(change) => {
                 let called = making::changed(fleet, change, words, &file);
                 let answer = called.answer;
-                if !report::say_answer(answer) {
-                    return false;
-                }
+                report::say_answer(rt, answer)?;
                 fleet = called.fleet;
             }
-            Call::Look(look) => {
-                if !making::say_look(fleet, look, words, &file) {
-                    return false;
-                }
-            }
-            Call::PlanShown => {
-                let planned = making::plan_shown(fleet, words);
-                if !planned.is_said {
-                    return false;
-                }
-                fleet = planned.fleet;
-            }
+            Call::Look(look) => making::say_look(rt, fleet, look, words, &file)?,
+            Call::PlanShown => fleet = making::plan_shown(rt, fleet, words)?,
         }
         at += CALL_BYTES + calls::file_length(call, words) as usize;
     }
-    report::say_fleet(fleet)
+    report::say_fleet(rt, fleet)
 }
 
 // An input whose fleet file has that length.
-fn replay_from(input: i32, name: &[u8], file_length: u32) -> bool {
+fn replay_from(
+    rt: &(impl Print + Eprint),
+    input: &mut impl Read,
+    name: &[u8],
+    file_length: u32,
+) -> Result<()> {
     let length = file_length as usize;
     let start = 4 + length;
-    let mut file = io::large_buffer();
-    if !input::read_file(input, name, &mut file, length) {
-        return end_unread();
+    let mut file = [0u8; 65536];
+    if !input::read_file(rt, input, name, &mut file, length) {
+        return end_unread(rt);
     }
     let loaded = making::load(Fleet::empty(), &file, length);
     let answer = loaded.answer;
-    if !report::say_answer(answer) {
-        return false;
-    }
+    report::say_answer(rt, answer)?;
     let fleet = loaded.fleet;
-    make_calls(input, name, fleet, start)
+    make_calls(rt, input, name, fleet, start)
 }
 
-fn replay(input: i32, name: &[u8]) -> bool {
-    let Length::Is(length) = input::file_length(input, name) else {
-        return end_unread();
+fn replay(rt: &(impl Print + Eprint), input: &mut impl Read, name: &[u8]) -> Result<()> {
+    let Length::Is(length) = input::file_length(rt, input, name) else {
+        return end_unread(rt);
     };
-    replay_from(input, name, length)
+    replay_from(rt, input, name, length)
 }
 
-fn replay_standard_input() -> bool {
-    replay(STDIN_FILENO, b"standard input")
+fn replay_standard_input(rt: &(impl Print + Eprint + Input)) -> Result<()> {
+    replay(rt, &mut rt.reader(), b"standard input")
 }
 
-fn replay_file(name: &[u8]) -> bool {
-    let input = inputs::open(name);
-    if input < 0 {
-        complain_of(name);
-        return end_unread();
+fn replay_file(rt: &(impl Print + Eprint + Input + Files), name: &[u8]) -> Result<()> {
+    match inputs::open(rt, name) {
+        Ok(mut input) => replay(rt, &mut input, name),
+        Err(reason) => {
+            complain_of(rt, name, &reason);
+            end_unread(rt)
+        }
     }
-    let goes_on = replay(input, name);
-    inputs::close(input, name);
-    goes_on
+}
+
+fn replay_argument(rt: &(impl Print + Eprint + Input + Files), name: &[u8]) -> Result<()> {
+    say_name(rt, name)?;
+    if is_standard_input(name) {
+        replay_standard_input(rt)
+    } else {
+        replay_file(rt, name)
+    }
 }
 
 // An argument that is too long for a name is read as an empty one, which no file has.
-fn replay_argument(index: usize) -> bool {
-    let mut space = io::buffer();
-    let length = os::arg(index, &mut space);
-    let name = &space[..length];
-    if !say_name(name) {
-        return false;
+fn replay_arguments(rt: &(impl Print + Eprint + Input + Files + Env)) -> Result<()> {
+    let mut space = [0u8; NAME_BYTES];
+    for index in 1..usize::MAX {
+        let Some(length) = argument(rt, index, &mut space) else {
+            return Ok(());
+        };
+        replay_argument(rt, &space[..length])?;
     }
-    if is_standard_input(name) {
-        replay_standard_input()
-    } else {
-        replay_file(name)
-    }
+    Ok(())
 }
 
-fn main() {
-    let count = os::arg_count();
-    if ask_for_help(count) {
-        help::say_help();
-        return;
+fn main(rt: HostRuntime) -> Result<()> {
+    if ask_for_help(&rt) {
+        return help::say_help(&rt);
     }
-    if count < 2 {
-        replay_standard_input();
-        return;
+    let mut name = [0u8; 1];
+    if argument(&rt, 1, &mut name).is_none() {
+        return replay_standard_input(&rt);
     }
-    let mut index = 1;
-    while index < count {
-        if !replay_argument(index) {
-            return;
-        }
-        index += 1;
-    }
+    replay_arguments(&rt)
 }

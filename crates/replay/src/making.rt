@@ -6,17 +6,11 @@ use super::{calls, report};
 use fleet::{Answer, Called, Fleet};
 use records::reader::read_record;
 use refusals::{Refusal, Verdict};
+use std::io::Result;
 use vectors::number::from_word;
 
 // What a buffer is filled with before a save.
 const UNTOUCHED: u8 = 0xa5;
-
-// The fleet after a plan that shows its scratch, and whether that could be written.
-#[derive(Drop)]
-pub struct Planned {
-    pub fleet: Fleet,
-    pub is_said: bool,
-}
 
 fn at_most(most: usize, length: usize) -> usize
     ensures { result ≤ most }
@@ -53,15 +47,15 @@ pub(crate) fn load(fleet: Fleet, file: &[u8], length: usize) -> Called {
 }
 
 // Reads one record of such a file, and says it.
-fn say_record(file: &[u8], length: usize, index: usize) -> bool {
+fn say_record(rt: &impl Print, file: &[u8], length: usize, index: usize) -> Result<()> {
     let held = at_most(file.len(), length);
     let handed = read_record(&file[0..held], index);
     let verdict = handed.verdict;
     let stored = handed.stored;
     let words = stored.words;
     match verdict {
-        Verdict::Passed => report::say_words(words),
-        Verdict::Refused(refusal) => report::say_refused(with_length(refusal, length)),
+        Verdict::Passed => report::say_words(rt, words),
+        Verdict::Refused(refusal) => report::say_refused(rt, with_length(refusal, length)),
     }
 }
 
@@ -98,45 +92,50 @@ fn marked(first: u32) -> [f32; MOST_SCRATCH] {
     let mut index = 0;
     while index < MOST_SCRATCH {
         numbers[index] = from_word(word);
-        word = std::num::wrapping_add_u32(word, 1);
+        word = word.wrapping_add(1);
         index += 1;
     }
     numbers
 }
 
-pub(crate) fn plan_shown(fleet: Fleet, words: [u32; CALL_WORDS]) -> Planned {
+// The fleet after a plan that shows its scratch.
+pub(crate) fn plan_shown(rt: &impl Print, fleet: Fleet, words: [u32; CALL_WORDS]) -> Result<Fleet> {
     let mut numbers = marked(calls::first_argument(words));
     let most = at_most(MOST_SCRATCH, calls::scratch_length(words));
     let scratch = &mut numbers[0..most];
     let called = fleet.plan(calls::index(words), scratch);
     let answer = called.answer;
     let after = called.fleet;
-    Planned {
-        fleet: after,
-        is_said: report::say_plan(answer, scratch),
-    }
+    report::say_plan(rt, answer, scratch)?;
+    Ok(after)
 }
 
-fn say_save(fleet: Fleet, length: usize) -> bool {
+fn say_save(rt: &impl Print, fleet: Fleet, length: usize) -> Result<()> {
     let mut bytes = [UNTOUCHED; MOST_BUFFER];
     let most = at_most(MOST_BUFFER, length);
     let buffer = &mut bytes[0..most];
     let saved = fleet.save(buffer);
     let answer = saved.answer;
-    report::say_saved(answer, saved.bytes, buffer)
+    report::say_saved(rt, answer, saved.bytes, buffer)
 }
 
-fn say_standing(fleet: Fleet, index: usize) -> bool {
-    report::say_read(fleet.read(index))
+fn say_standing(rt: &impl Print, fleet: Fleet, index: usize) -> Result<()> {
+    report::say_read(rt, fleet.read(index))
 }
 
 // Says what the call shows. The file that follows it, if one does, stands in `file`.
-pub(crate) fn say_look(fleet: Fleet, look: Look, words: [u32; CALL_WORDS], file: &[u8]) -> bool {
+pub(crate) fn say_look(
+    rt: &impl Print,
+    fleet: Fleet,
+    look: Look,
+    words: [u32; CALL_WORDS],
+    file: &[u8],
+) -> Result<()> {
     let index = calls::index(words);
     let length = calls::first_argument(words) as usize;
     match look {
-        Look::Read => say_standing(fleet, index),
-        Look::Save => say_save(fleet, length),
-        Look::Record => say_record(file, length, index),
+        Look::Read => say_standing(rt, fleet, index),
+        Look::Save => say_save(rt, fleet, length),
+        Look::Record => say_record(rt, file, length, index),
     }
 }

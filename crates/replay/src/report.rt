@@ -1,12 +1,13 @@
 // The lines that are printed. Words and numbers, of a velocity and of scratch, are 8 lower-case hex digits of their bits,
 // and the bytes of a buffer 2 each; a refusal's number and place, the plane from which a velocity is relaxed, the bytes
-// saved and a byte of the input are decimal. Each `say` answers whether its line could be written.
+// saved and a byte of the input are decimal. A line that could not be written is an error, which ends the run.
 use console::Line;
 use console::output::say;
 use fleet::{Answer, Fleet, Read};
 use records::RECORD_WORDS;
 use refusals::{Found, Refusal};
 use requests::{Course, Reply};
+use std::io::Result;
 use vectors::Vec3;
 use vectors::number::to_word;
 
@@ -16,12 +17,12 @@ const NUMBERS_AT_ONCE: usize = 32;
 const BYTES_AT_ONCE: usize = 128;
 
 // `unreadable B`
-pub(crate) fn say_unreadable(byte: usize) -> bool {
+pub(crate) fn say_unreadable(rt: &impl Print, byte: usize) -> Result<()> {
     Line::empty()
         .text(b"unreadable ")
         .decimal(byte as u64)
         .text(b"\n")
-        .say()
+        .say(rt)
 }
 
 // `refused N P`
@@ -87,58 +88,58 @@ fn answer_line(answer: Answer) -> Line {
     }
 }
 
-pub(crate) fn say_refused(refusal: Refusal) -> bool {
-    refused(refusal).text(b"\n").say()
+pub(crate) fn say_refused(rt: &impl Print, refusal: Refusal) -> Result<()> {
+    refused(refusal).text(b"\n").say(rt)
 }
 
-pub(crate) fn say_answer(answer: Answer) -> bool {
-    answer_line(answer).text(b"\n").say()
+pub(crate) fn say_answer(rt: &impl Print, answer: Answer) -> Result<()> {
+    answer_line(answer).text(b"\n").say(rt)
 }
 
 // Each number after a space.
-fn say_numbers(numbers: &[f32]) -> bool {
+fn say_numbers(rt: &impl Print, numbers: &[f32]) -> Result<()> {
     let mut line = Line::empty();
     let mut index = 0;
     while index < numbers.len() {
         line = with_number(line, numbers[index]);
         index += 1;
         if index % NUMBERS_AT_ONCE == 0 {
-            if !line.say() {
-                return false;
-            }
+            line.say(rt)?;
             line = Line::empty();
         }
     }
-    line.say()
+    line.say(rt)
 }
 
 // A plan's line, then ` scratch`, and every number of it
-pub(crate) fn say_plan(answer: Answer, scratch: &[f32]) -> bool {
-    answer_line(answer).text(b" scratch").say() && say_numbers(scratch) && say(b"\n")
+pub(crate) fn say_plan(rt: &impl Print, answer: Answer, scratch: &[f32]) -> Result<()> {
+    answer_line(answer).text(b" scratch").say(rt)?;
+    say_numbers(rt, scratch)?;
+    say(rt, b"\n")
 }
 
-fn say_bytes(bytes: &[u8]) -> bool {
+fn say_bytes(rt: &impl Print, bytes: &[u8]) -> Result<()> {
     let mut line = Line::empty();
     let mut index = 0;
     while index < bytes.len() {
         line = line.byte(bytes[index]);
         index += 1;
         if index % BYTES_AT_ONCE == 0 {
-            if !line.say() {
-                return false;
-            }
+            line.say(rt)?;
             line = Line::empty();
         }
     }
-    line.say()
+    line.say(rt)
 }
 
 // ` buffer`, and after a space its bytes, where it has any
-fn say_buffer(buffer: &[u8]) -> bool {
+fn say_buffer(rt: &impl Print, buffer: &[u8]) -> Result<()> {
     if buffer.len() == 0 {
-        return say(b" buffer\n");
+        return say(rt, b" buffer\n");
     }
-    say(b" buffer ") && say_bytes(buffer) && say(b"\n")
+    say(rt, b" buffer ")?;
+    say_bytes(rt, buffer)?;
+    say(rt, b"\n")
 }
 
 // `saved N`, or a refusal's line
@@ -149,43 +150,45 @@ fn saved_line(answer: Answer, bytes: usize) -> Line {
     answer_line(answer)
 }
 
-pub(crate) fn say_saved(answer: Answer, bytes: usize, buffer: &[u8]) -> bool {
-    saved_line(answer, bytes).say() && say_buffer(buffer)
+pub(crate) fn say_saved(
+    rt: &impl Print,
+    answer: Answer,
+    bytes: usize,
+    buffer: &[u8],
+) -> Result<()> {
+    saved_line(answer, bytes).say(rt)?;
+    say_buffer(rt, buffer)
 }
 
 // A record's words, with a space between them
-pub(crate) fn say_words(words: [u32; RECORD_WORDS]) -> bool {
+pub(crate) fn say_words(rt: &impl Print, words: [u32; RECORD_WORDS]) -> Result<()> {
     let mut line = Line::empty().word(words[0]);
     let mut place = 1;
     while place < RECORD_WORDS {
         line = line.text(b" ").word(words[place]);
         place += 1;
     }
-    line.text(b"\n").say()
+    line.text(b"\n").say(rt)
 }
 
-pub(crate) fn say_read(read: Read) -> bool {
+pub(crate) fn say_read(rt: &impl Print, read: Read) -> Result<()> {
     let answer = read.answer;
     let words = read.words;
     if let Answer::Done = answer {
-        say_words(words)
+        say_words(rt, words)
     } else {
-        say_answer(answer)
+        say_answer(rt, answer)
     }
 }
 
 // `fleet`, and the words of every agent
-pub(crate) fn say_fleet(fleet: Fleet) -> bool {
-    if !say(b"fleet\n") {
-        return false;
-    }
+pub(crate) fn say_fleet(rt: &impl Print, fleet: Fleet) -> Result<()> {
+    say(rt, b"fleet\n")?;
     let count = fleet.agent_count();
     let mut index = 0;
     while index < count {
-        if !say_read(fleet.read(index)) {
-            return false;
-        }
+        say_read(rt, fleet.read(index))?;
         index += 1;
     }
-    true
+    Ok(())
 }
