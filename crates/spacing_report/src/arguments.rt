@@ -1,7 +1,10 @@
 // What the arguments say. One that is too long for a name is read as an empty one, which is no number and no file.
 ghost use Rattle.std.specs.Prelude.{◌<◌};
 
-#[derive(Drop)]
+use console::arguments::{NAME_BYTES, argument};
+use std::rt::Env;
+
+#[derive(Clone, Copy)]
 pub(crate) enum Number {
     Is(u64),
     Malformed,
@@ -39,10 +42,13 @@ fn read_number(text: &[u8]) -> Number {
     Number::Is(value)
 }
 
-pub(crate) fn number_at(index: usize) -> Number {
-    let mut space = io::buffer();
-    let length = os::arg(index, &mut space);
-    read_number(&space[..length])
+// An argument that is not there is no number either.
+pub(crate) fn number_at(env: &impl Env, index: usize) -> Number {
+    let mut space = [0u8; NAME_BYTES];
+    match argument(env, index, &mut space) {
+        Some(length) => read_number(&space[..length]),
+        None => Number::Malformed,
+    }
 }
 
 pub(crate) fn is_at_most(number: Number, most: u64) -> bool {

@@ -1,9 +1,10 @@
 // Frames back to back, 12 bytes an agent, taken into a tally as they are read. Memory does not grow with them.
 ghost use Rattle.std.specs.Prelude.{◌+◌, ◌*◌, ◌≤◌, ◌<◌, length};
 
-use console::{Filled, inputs};
+use console::{Filled, Whole, inputs};
 use spacing::tallies::stepped;
 use spacing::{Answer, Refusal, Report, Tallied, Tally};
+use std::io::{Error, Read};
 use vectors::number::from_word;
 
 // The bytes of an agent in a frame: three numbers.
@@ -12,16 +13,17 @@ const AGENT_BYTES: usize = 12;
 // The most frames that a tally takes.
 const MOST_FRAMES: usize = 1_048_576;
 
-// What comes of an input: a report, or the first refused frame's answer and its number, counted from 0.
+// What comes of an input: a report, or the first refused frame's answer and its number, counted from 0, or why it can't
+// be read.
 #[derive(Drop)]
 pub(crate) enum Outcome {
     Reported(Report),
     Refused(Answer, usize),
-    Unreadable,
+    Unreadable(Error),
 }
 
 // Fills the first `size` bytes of the space, but for the end of the input.
-fn fill(input: i32, space: &mut [u8], size: usize) -> Filled
+fn fill(input: &mut impl Read, space: &mut [u8], size: usize) -> Filled
     requires { size ≤ length space.old }
     ensures { result.bytes ≤ size }
 {
@@ -89,13 +91,17 @@ fn end(tally: Tally, rest: usize) -> Outcome {
 }
 
 // With no agents every byte is one too many: all that is left to know is how many there are.
-fn outcome_of_none(input: i32, tally: Tally) -> Outcome {
-    let mut space = io::buffer();
-    let whole = inputs::read_whole(input, &mut space);
-    if whole.has_failed {
-        return Outcome::Unreadable;
+fn outcome_of_none(input: &mut impl Read, tally: Tally) -> Outcome {
+    let mut space = [0u8; 4096];
+    let Whole {
+        length,
+        failure,
+        ..
+    } = inputs::read_whole(input, &mut space);
+    match failure {
+        Some(reason) => Outcome::Unreadable(reason),
+        None => end(tally, length),
     }
-    end(tally, whole.length)
 }
 
 // The bytes of as many whole frames as there is room for.
@@ -106,22 +112,21 @@ fn room(frame: usize) -> usize
     65536 - 65536 % frame
 }
 
-pub(crate) fn outcome_of(input: i32, tally: Tally, agents: usize) -> Outcome
+pub(crate) fn outcome_of(input: &mut impl Read, tally: Tally, agents: usize) -> Outcome
     requires { agents ≤ 64 }
 {
     if agents == 0 {
         return outcome_of_none(input, tally);
     }
-    let mut space = io::large_buffer();
+    let mut space = [0u8; 65536];
     let size = room(AGENT_BYTES * agents);
     let mut running = tally;
     let mut turns = 0;
     while turns <= MOST_FRAMES {
-        let filled = fill(input, &mut space, size);
-        if filled.has_failed {
-            return Outcome::Unreadable;
+        let Filled { bytes, failure } = fill(input, &mut space, size);
+        if let Some(reason) = failure {
+            return Outcome::Unreadable(reason);
         }
-        let bytes = filled.bytes;
         let last = taken(running, &space[0..bytes], agents);
         running = last.tally;
         let answer = last.answer;

@@ -1,8 +1,10 @@
 // What `--help` prints: one screen, of 24 lines and 79 characters.
 use console::output::say;
+use std::io::Result;
 
-pub(crate) fn say_help() {
+pub(crate) fn say_help(rt: &impl Print) -> Result<()> {
     say(
+        rt,
         b"usage: spacing_report AGENTS LIMIT [FILE ..]
 
 Says how near the agents of a recording came to each other, for each FILE in
@@ -28,5 +30,5 @@ With 0 AGENTS any byte is refused by 14; over 64 give the line \"refused 9 64\".
 A file that can't be read gives the line \"unreadable\"; the reason, a bad
 argument and a write that fails, which ends the run, are on standard error.
 ",
-    );
+    )
 }

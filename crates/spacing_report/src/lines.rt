@@ -1,8 +1,9 @@
-// The lines that are printed. Those of an input are put together first and written at once. Each `say` answers whether
-// its lines could be written.
+// The lines that are printed. Those of an input are put together first and written at once. Each `say` fails where its
+// lines could not be written.
 use console::Line;
 use spacing::whole_root::whole_root;
 use spacing::{Answer, Report, Sighting, Smallest};
+use std::io::Result;
 
 fn with_sighting(line: Line, sighting: Sighting) -> Line {
     line.text(b"smallest ")
@@ -25,7 +26,7 @@ fn with_smallest(line: Line, smallest: Smallest) -> Line {
     }
 }
 
-pub(crate) fn say_report(report: Report, limit: u32) -> bool {
+pub(crate) fn say_report(rt: &impl Print, report: Report, limit: u32) -> Result<()> {
     let smallest = report.smallest;
     let frames = Line::empty()
         .text(b"frames ")
@@ -37,10 +38,10 @@ pub(crate) fn say_report(report: Report, limit: u32) -> bool {
         .text(b" mm: ")
         .decimal(report.below)
         .text(b"\n")
-        .say()
+        .say(rt)
 }
 
-pub(crate) fn say_refused_frame(answer: Answer, frame: usize) -> bool {
+pub(crate) fn say_refused_frame(rt: &impl Print, answer: Answer, frame: usize) -> Result<()> {
     Line::empty()
         .text(b"refused ")
         .decimal(answer.number() as u64)
@@ -49,5 +50,5 @@ pub(crate) fn say_refused_frame(answer: Answer, frame: usize) -> bool {
         .text(b" frame ")
         .decimal(frame as u64)
         .text(b"\n")
-        .say()
+        .say(rt)
 }

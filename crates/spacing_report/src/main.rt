@@ -5,6 +5,8 @@
 //
 // `--help` (`help.rt`) says what an input is and what is printed. For a file that can't be read the line is `unreadable`.
 // Why, and an argument that is no number, is said on standard error. The first write that fails ends the run.
+#![tactic(auto)]
+
 mod arguments;
 mod frames;
 mod help;
@@ -13,103 +15,132 @@ mod lines;
 ghost use Rattle.std.specs.Prelude.{◌≤◌};
 
 use arguments::{Number, is_at_most, number_at};
+use console::arguments::{NAME_BYTES, argument, ask_for_help, is_there};
 use console::output::complain;
 use console::{inputs, output};
 use frames::{Outcome, outcome_of};
-use libc::STDIN_FILENO;
 use spacing::Tally;
+use std::io::{Input, Read, Result};
+use std::rt::{Env, Files};
 
-// A `report` answers whether to go on: always, but after a write that failed, which `output` has said.
+// A `report` fails where a write of standard output fails, and the program ends with that error.
 
-fn report_input(input: i32, name: &[u8], tally: Tally, agents: usize, limit: u32) -> bool
+fn report_input(
+    rt: &(impl Print + Eprint),
+    input: &mut impl Read,
+    name: &[u8],
+    tally: Tally,
+    agents: usize,
+    limit: u32,
+) -> Result<()>
     requires { agents ≤ 64 }
 {
     match outcome_of(input, tally, agents) {
-        Outcome::Reported(report) => lines::say_report(report, limit),
-        Outcome::Refused(answer, frame) => lines::say_refused_frame(answer, frame),
-        Outcome::Unreadable => output::say_unreadable(name),
+        Outcome::Reported(report) => lines::say_report(rt, report, limit),
+        Outcome::Refused(answer, frame) => lines::say_refused_frame(rt, answer, frame),
+        Outcome::Unreadable(reason) => output::say_unreadable(rt, name, &reason),
     }
 }
 
 // An argument that is too long for a name is read as an empty one, which no file has.
-fn report_argument(index: usize, tally: Tally, agents: usize, limit: u32) -> bool
+fn report_argument(
+    rt: &(impl Print + Eprint + Input + Files),
+    name: &[u8],
+    tally: Tally,
+    agents: usize,
+    limit: u32,
+) -> Result<()>
     requires { agents ≤ 64 }
 {
-    let mut space = io::buffer();
-    let length = os::arg(index, &mut space);
-    let name = &space[..length];
-    if !output::say_name(name) {
-        return false;
+    output::say_name(rt, name)?;
+    match inputs::open(rt, name) {
+        Ok(mut input) => report_input(rt, &mut input, name, tally, agents, limit),
+        Err(reason) => output::say_unreadable(rt, name, &reason),
     }
-    let input = inputs::open(name);
-    if input < 0 {
-        return output::say_unreadable(name);
-    }
-    let goes_on = report_input(input, name, tally, agents, limit);
-    inputs::close(input, name);
-    goes_on
 }
 
-fn report_all(tally: Tally, agents: usize, limit: u32, count: usize)
+fn report_all(
+    rt: &(impl Print + Eprint + Input + Files + Env),
+    tally: Tally,
+    agents: usize,
+    limit: u32,
+) -> Result<()>
     requires { agents ≤ 64 }
 {
-    if count <= 3 {
-        report_input(STDIN_FILENO, b"standard input", tally, agents, limit);
-        return;
+    if !is_there(rt, 3) {
+        return report_input(
+            rt,
+            &mut rt.reader(),
+            b"standard input",
+            tally,
+            agents,
+            limit,
+        );
     }
-    let mut index = 3;
-    while index < count {
-        if !report_argument(index, tally, agents, limit) {
-            return;
-        }
-        index += 1;
+    let mut space = [0u8; NAME_BYTES];
+    for index in 3..usize::MAX {
+        let Some(length) = argument(rt, index, &mut space) else {
+            return Ok(());
+        };
+        report_argument(rt, &space[..length], tally, agents, limit)?;
     }
+    Ok(())
 }
 
 // A tally for more than 64 agents is refused, and no other.
-fn run(agents: usize, limit: u32, count: usize) {
+fn run(rt: &(impl Print + Eprint + Input + Files + Env), agents: usize, limit: u32) -> Result<()> {
     let begun = Tally::begin(agents, limit);
     let answer = begun.answer;
     let tally = begun.tally;
     if agents <= 64 {
-        report_all(tally, agents, limit, count);
+        report_all(rt, tally, agents, limit)
     } else {
-        output::say_refused(answer.number(), answer.place());
+        output::say_refused(rt, answer.number(), answer.place())
     }
 }
 
 // Where one of the two is not as it has to be, that is said already.
-fn run_numbers(agents: Number, limit: Number, count: usize) {
+fn run_numbers(
+    rt: &(impl Print + Eprint + Input + Files + Env),
+    agents: Number,
+    limit: Number,
+) -> Result<()> {
     let Number::Is(agents) = agents else {
-        return;
+        return Ok(());
     };
     let Number::Is(limit) = limit else {
-        return;
+        return Ok(());
     };
     if limit <= 0xFFFF_FFFF {
-        run(agents as usize, limit as u32, count);
+        return run(rt, agents as usize, limit as u32);
     }
+    Ok(())
 }
 
-fn main() {
-    let count = os::arg_count();
-    if console::arguments::ask_for_help(count) {
-        help::say_help();
-        return;
+fn main(rt: HostRuntime) -> Result<()> {
+    if ask_for_help(&rt) {
+        return help::say_help(&rt);
     }
-    if count < 3 {
-        complain(b"usage: spacing_report AGENTS LIMIT [FILE ..]; try --help\n");
-        return;
+    if !is_there(&rt, 2) {
+        complain(
+            &rt,
+            b"usage: spacing_report AGENTS LIMIT [FILE ..]; try --help\n",
+        );
+        return Ok(());
     }
-    let agents = number_at(1);
-    let limit = number_at(2);
+    let agents = number_at(&rt, 1);
+    let limit = number_at(&rt, 2);
     if let Number::Malformed = agents {
-        complain(b"spacing_report: AGENTS has to be a number in decimal digits; try --help\n");
+        complain(
+            &rt,
+            b"spacing_report: AGENTS has to be a number in decimal digits; try --help\n",
+        );
     }
     if !is_at_most(limit, 0xFFFF_FFFF) {
         complain(
+            &rt,
             b"spacing_report: LIMIT has to be a number in decimal digits, up to 4294967295; try --help\n",
         );
     }
-    run_numbers(agents, limit, count);
+    run_numbers(&rt, agents, limit)
 }
