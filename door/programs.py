@@ -1,15 +1,14 @@
-"""The proved programs, `target/bin/NAME`: built where need be, and run.
+"""The proved programs, `crates/NAME/out/NAME`: built where need be, and run.
 
 A program is current where it is newer than every file of its crate and of the crates that it stands on. Else the
-toolchain is asked, `rt check NAME`, which proves what has changed, builds the program and tries it on its stored input.
+toolchain is asked, by `rt run` in its folder, which proves what has changed, and builds and runs the program: only
+for its `--help`, since no command builds one without running it. The gate, `rt ci`, leaves programs at the same place.
 
-Programs are x86-64 code. A machine of another kind runs them by what the toolchain brings for that: an emulator, and
-the loader and the C library of x86-64.
+Programs are x86-64 code, and the toolchain has none for other machines.
 """
 import contextlib
 import os
 import pathlib
-import platform
 import shutil
 import subprocess
 import time
@@ -18,17 +17,19 @@ from door.files import STDERR, Trouble, complain, say
 
 ROOT = pathlib.Path(__file__).resolve().parent.parent
 TARGET = ROOT / "target"
-# what a program is made from and tried on; the rest of a crate is for the gate alone
-PARTS = ("src", "specs", "proofs", "stdin", "stdout", "args", "data")
+# what a program is made from; the rest of a crate is for the gate alone
+PARTS = ("src", "specs", "proofs")
+# what rt is asked, in a program's folder
+BUILD = ("run", "--", "--help")
 
 
 def run(name, arguments=(), is_forced=False, **stdin):
     """What a program writes to standard output; the input is given as for `subprocess.run`."""
     if is_forced or not is_current(name):
         check(name)
-    command = [*runner(), str(binary(name)), *arguments]
+    command = [str(binary(name)), *arguments]
     try:
-        ran = subprocess.run(command, stdout=subprocess.PIPE, stderr=subprocess.PIPE, env=environment(), **stdin)
+        ran = subprocess.run(command, stdout=subprocess.PIPE, stderr=subprocess.PIPE, **stdin)
     except OSError as error:
         raise Trouble(f"{name} can't be run: {error.strerror}: {error.filename}") from None
     said = ran.stderr.decode(errors="replace").strip()
@@ -41,8 +42,12 @@ def run(name, arguments=(), is_forced=False, **stdin):
     return ran.stdout
 
 
+def folder(name):
+    return ROOT / "crates" / name
+
+
 def binary(name):
-    return TARGET / "bin" / name
+    return folder(name) / "out" / name
 
 
 def is_current(name):
@@ -56,7 +61,7 @@ def sources(name):
     yield ROOT / "crates.txt"
     for crate in crates_below(name):
         for part in PARTS:
-            top = ROOT / "crates" / crate / part
+            top = folder(crate) / part
             yield top
             yield from top.rglob("*")
 
@@ -84,7 +89,8 @@ def crates():
     """What crates.txt says: each crate, and what it depends on."""
     lines = (line.partition("#")[0] for line in (ROOT / "crates.txt").read_text().splitlines())
     parted = (line.partition(":") for line in lines if line.strip())
-    return {name.strip(): below.split() for name, _, below in parted}
+    # a word after the name says what kind of crate it is
+    return {name.split()[0]: below.split() for name, _, below in parted}
 
 
 def check(name):
@@ -94,14 +100,14 @@ def check(name):
     began, status = time.time(), None
     try:
         with new_file(log) as said:
-            status = timed([rt, "check", name], said, f"guineacrumb: proving and building {name} (rt check {name}) ..")
+            status = timed([rt, *BUILD], folder(name), said, f"guineacrumb: proving and building {name} (rt run in crates/{name}) ..")
     finally:
         # the time at which it began, so that what is edited meanwhile is newer; and one before all where it failed
         date(binary(name), began if status == 0 else 0)
     if status != 0:
-        raise Trouble(f"rt check {name} failed with status {status}; {log} has what it said")
+        raise Trouble(f"rt run in crates/{name} failed with status {status}; {log} has what it said")
     if not binary(name).exists():
-        raise Trouble(f"rt check {name} made no {binary(name)}; {log} has what it said")
+        raise Trouble(f"rt run in crates/{name} made no {binary(name)}; {log} has what it said")
 
 
 def new_file(path):
@@ -119,11 +125,11 @@ def date(path, when):
         os.utime(path, (when, when))
 
 
-def timed(command, output, line):
-    """The status with which a command ends, run in the repository. A line on standard error has the seconds gone by."""
+def timed(command, where, output, line):
+    """The status with which a command ends, run in that folder. A line on standard error has the seconds gone by."""
     began, is_live = time.time(), os.isatty(STDERR)
     say(line)
-    process = subprocess.Popen(command, cwd=ROOT, stdin=subprocess.DEVNULL, stdout=output, stderr=subprocess.STDOUT)
+    process = subprocess.Popen(command, cwd=where, stdin=subprocess.DEVNULL, stdout=output, stderr=subprocess.STDOUT)
     try:
         while True:
             with contextlib.suppress(subprocess.TimeoutExpired):
@@ -144,23 +150,3 @@ def toolchain_command(purpose):
     if rt is None:
         raise Trouble(f"there is no rt here, the command of the Rattle toolchain, {purpose}")
     return rt
-
-
-def runner():
-    """The command before a program's name on this machine: none where x86-64 is its own code."""
-    machine = platform.machine()
-    if machine == "x86_64":
-        return []
-    rt = toolchain_command(f"to run programs for x86-64 on this machine, {machine}")
-    home = pathlib.Path(os.environ.get("RATTLE_HOME") or pathlib.Path(rt).resolve().parent.parent)
-    tools = home / "on" / machine / "toolchain"
-    emulator, loader = tools / "bin" / "qemu-x86_64", tools / "lib" / "ld-linux-x86-64.so.2"
-    for part in emulator, loader:
-        if not part.exists():
-            raise Trouble(f"the toolchain at {home} can't run programs for x86-64 on this machine: it has no {part}")
-    return [str(emulator), str(loader), "--library-path", str(tools / "lib")]
-
-
-def environment():
-    """The environment, without what would tell an emulator to do something else."""
-    return {name: value for name, value in os.environ.items() if not name.startswith("QEMU_")}

@@ -1,9 +1,10 @@
 /*
  * The functions of libguineacrumb.a, the static library of this repository, for C and C++ on x86-64
- * Linux. `rt staticlib guineacrumb` proves the crates below it and writes the archive to
- * target/staticlib/; `examples/install PREFIX` puts archive, header and pkg-config file below PREFIX:
+ * Linux. `rt lib --cpu x86-64` in crates/guineacrumb proves it and the crates below it, and writes the
+ * archive to crates/guineacrumb/out/; `examples/install PREFIX` puts archive, header and pkg-config file
+ * below PREFIX:
  *
- *     cc -Iinclude main.c target/staticlib/libguineacrumb.a
+ *     cc -Iinclude main.c crates/guineacrumb/out/libguineacrumb.a
  *     cc main.c $(pkg-config --cflags --libs guineacrumb)
  *
  * It wants no other library. Of C's own functions it calls those of the next line, which a program that
@@ -11,7 +12,9 @@
  *
  *     wanted of C: memcpy memset
  *
- * `oracle/native TARGET` compiles the same program for other machines, and says what speaks for that code.
+ * The code is for every x86-64 processor; that of a plain `rt lib` is for x86-64-v2, which processors
+ * since about 2009 are. `oracle/native TARGET` compiles the same program for aarch64, and says what speaks
+ * for that code.
  * examples/ has programs in C and a crate in Rust that call each function.
  *
  * Lengths are in metres, times in seconds, speeds and velocities in metres a second.

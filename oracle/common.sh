@@ -1,15 +1,17 @@
 # What the scripts of oracle/ and examples/run share. Each sources it, has `take` look at its arguments, and then makes the
 # repository its working directory.
 #
-# They need, by the names of Debian's packages, gcc, cargo 1.84 or newer (rustup has one where the package's is older), and
-# where the machine is no x86-64 gcc-x86-64-linux-gnu, libc6-dev-amd64-cross and qemu-user; oracle/root also python3, 3.9 or
-# newer.
+# They need, by the names of Debian's packages, gcc, and cargo 1.84 or newer (rustup has one where the package's is older);
+# oracle/root also python3, 3.9 or newer.
+#
+# The Rattle toolchain runs on x86-64 alone. On a machine of another kind the library and the programs are those that variables
+# name, built on an x86-64 one: GUINEACRUMB_NATIVE an archive for this machine (oracle/native), and GUINEACRUMB_NAME a program,
+# which runs under qemu-user where it is x86-64 code.
 # shellcheck shell=bash
 
 built=target/oracle
-# The file to link, the command that compiles a program in C for it, the one that runs such a program, and the one that
-# lists the file's code; build_library sets them, and choose_commands all but the first.
-library='' compiler=() emulator=() objdump=''
+# The file to link, and the command that compiles a program in C for it; build_library sets the first, choose_compiler the other.
+library='' compiler=()
 # The command that makes the library's calls; build_server sets it.
 server=()
 # The command that runs a program of ours; build_program sets it.
@@ -52,9 +54,9 @@ need() {
     command -v "$1" >/dev/null || stop "there is no $1 here. The package $2 of Debian and Ubuntu has it."
 }
 
-# need_rt WHAT: stops where there is no toolchain to build WHAT.
+# need_rt WHAT VARIABLE: stops where there is no toolchain to build WHAT, which VARIABLE may name instead.
 need_rt() {
-    command -v rt >/dev/null || stop "there is no rt here, the command of the Rattle toolchain, to prove and build $1."
+    command -v rt >/dev/null || stop "there is no rt here, the command of the Rattle toolchain, to prove and build $1; $2 may name it, built elsewhere."
 }
 
 # Stops where there is no cargo, or one that is too old for the lock files and for what the programs are written in.
@@ -185,34 +187,23 @@ build_programs() {
     cargo build --quiet --release --offline --locked --manifest-path oracle/Cargo.toml --target-dir "$built/cargo"
 }
 
-# Sets the commands for the machine that the library's code is for, and stops where there is none of them. It is x86-64 code:
-# a machine of another kind needs a cross compiler and an emulator.
-choose_commands() {
-    if [ -n "${GUINEACRUMB_NATIVE:-}" ] || [ "$(uname -m)" = x86_64 ]; then
-        compiler=(cc) emulator=() objdump=objdump
-        need cc gcc
-    else
-        # static, so that the emulator needs no library of the other machine's
-        compiler=(x86_64-linux-gnu-gcc -static) emulator=(qemu-x86_64)
-        # shellcheck disable=SC2034 # root uses it
-        objdump=x86_64-linux-gnu-objdump
-        need x86_64-linux-gnu-gcc gcc-x86-64-linux-gnu
-        need qemu-x86_64 qemu-user
-    fi
-    compiler+=(-std=c11 -O2 -Wall -Wextra)
+# Sets the command that compiles programs in C.
+choose_compiler() {
+    compiler=(cc -std=c11 -O2 -Wall -Wextra)
+    need cc gcc
 }
 
-# Proves and builds the static library. GUINEACRUMB_NATIVE may name an object or an archive with the library's functions that
-# was compiled for this very machine, as oracle/native does; it is then linked instead, and nothing is emulated.
+# Proves and builds the static library, for every x86-64 processor. GUINEACRUMB_NATIVE may name an object or an archive with the
+# library's functions that was compiled for this very machine, as oracle/native does; it is then linked instead.
 build_library() {
-    library=${GUINEACRUMB_NATIVE:-target/staticlib/libguineacrumb.a}
-    choose_commands
+    library=${GUINEACRUMB_NATIVE:-crates/guineacrumb/out/libguineacrumb.a}
+    choose_compiler
     mkdir -p "$built"
     if [ -n "${GUINEACRUMB_NATIVE:-}" ]; then
         [ -f "$library" ] || stop "GUINEACRUMB_NATIVE is $library, and there is no such file."
     else
-        need_rt "the library"
-        quietly "$built/staticlib.log" rt staticlib guineacrumb
+        need_rt "the library" GUINEACRUMB_NATIVE
+        quietly "$built/lib.log" env -C crates/guineacrumb rt lib --cpu x86-64
     fi
 }
 
@@ -221,7 +212,7 @@ build_server() {
     build_library
     "${compiler[@]}" -Iinclude -o "$built/velocity_server" oracle/velocity_server.c "$library"
     # shellcheck disable=SC2034 # run and bench use it
-    server=("${emulator[@]}" "$built/velocity_server")
+    server=("$built/velocity_server")
 }
 
 # is_x86_64 FILE: whether the file is a program for x86-64, as its ELF header says.
@@ -234,20 +225,21 @@ is_x86_64() {
 # build_program NAME: proves and builds that program, and sets `program` to the command that runs it. The variable
 # GUINEACRUMB_NAME, in capitals, may name a file that was built already: GUINEACRUMB_REPLAY, GUINEACRUMB_SPACING_REPORT.
 #
-# What rt builds is x86-64 code, and asks for that machine's C library. On a machine of another kind it runs under an
-# emulator, which finds the library where it stands for programs of the other machine; so does a file named by the
-# variable that is x86-64 code. One that is not, as it was compiled for this very machine, runs as it is.
+# What rt builds is x86-64 code, and asks for that machine's C library. On a machine of another kind such a file, named by the
+# variable, runs under an emulator, which finds the library where it stands for programs of the other machine
+# (libc6-amd64-cross). One that is not, as it was compiled for this very machine, runs as it is.
 build_program() {
     local name=$1 variable=GUINEACRUMB_${1^^} file under=()
-    file=${!variable:-target/bin/$name}
-    if [ "$(uname -m)" != x86_64 ] && { [ -z "${!variable:-}" ] || is_x86_64 "$file"; }; then
+    file=${!variable:-crates/$name/out/$name}
+    if [ -z "${!variable:-}" ]; then
+        need_rt "the program $name" "$variable"
+        # rt has no command that builds a program and does not run it
+        quietly "$built/$name.log" env -C "crates/$name" rt run -- --help </dev/null
+    elif [ "$(uname -m)" != x86_64 ] && is_x86_64 "$file"; then
         need qemu-x86_64 qemu-user
         under=(qemu-x86_64 -L "${QEMU_LD_PREFIX:-/usr/x86_64-linux-gnu}")
     fi
     program=("${under[@]}" "$file")
-    [ -z "${!variable:-}" ] || return 0
-    need_rt "the program $name"
-    quietly "$built/$name.log" rt check "$name"
 }
 
 build_replay() {

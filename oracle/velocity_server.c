@@ -1,6 +1,6 @@
 /*
- * Makes calls of guineacrumb_velocity and guineacrumb_tick for a program that can't link the library: it is x86-64
- * code, and this server runs under an emulator where the machine is another.
+ * Makes calls of guineacrumb_velocity and guineacrumb_tick for programs that don't link the library: so they need not
+ * know what compiled it, nor for which processor.
  *
  * It reads batches from standard input until that ends, and writes what comes of each to standard output
  * once it has read the batch whole. All is words of 4 bytes, least byte first:
