@@ -1,10 +1,8 @@
 -- Single numbers. A number is the toolchain's `Float` at binary32: `nan`, `inf s`, or `fin s m e`, which is m * 2 ^ e and negative where s is true.
 -- Each operation below is IEEE 754's, rounded once, nearest with ties to even.
-use Rattle.std.specs.Prelude.{ℕ, Bool, true, false, ◌||◌, cond, Float}
+use Rattle.std.specs.Prelude.{ℕ, Bool, true, false, ◌||◌, cond, Option, Some, None, Float}
 use Rattle.std.specs.Float.{nan, inf, fin, binary32}
 use Rattle.std.specs.Float.Ieee.{add, sub, mul, div, lt, le, eq, is_nan, of_bits, to_bits}
-use Rattle.vectors.specs.declared.Clamped.{Clamped}
-use Rattle.vectors.specs.declared.Clamped.TheVariants.{Value, BadBounds}
 
 -- ---- the operators of Rust's `f32`, under names that every definition uses
 
@@ -70,11 +68,11 @@ larger old new = cond (is_nan old || old <ᶠ new) new old
 unfoldable pub smaller : Float → Float → Float
 smaller old new = cond (is_nan old || new <ᶠ old) new old
 
--- `x.clamp(low, high)`, which panics unless low <= high
-unfoldable pub clamped : Float → Float → Float → Clamped
+-- `x.clamp(low, high)`, which panics unless low <= high: none there
+unfoldable pub clamped : Float → Float → Float → Option Float
 clamped x low high =
     let raised = cond (x <ᶠ low) low x in
-    cond (low ≤ᶠ high) (Value (cond (raised >ᶠ high) high raised)) BadBounds
+    cond (low ≤ᶠ high) (Some (cond (raised >ᶠ high) high raised)) None
 
 -- a zero of either sign as +0
 unfoldable pub plus_zero : Float → Float

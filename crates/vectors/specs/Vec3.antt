@@ -1,10 +1,8 @@
 -- Vectors of three: document 01's lines on glam, one IEEE 754 operation at a time and in this order.
-use Rattle.std.specs.Prelude.{Bool, true, false, ◌&&◌, cond, T, Float}
+use Rattle.std.specs.Prelude.{Bool, ◌&&◌, cond, T, Option, Some, None, is_none, unwrap_or, Float}
 use Rattle.std.specs.Float.{binary32}
 use Rattle.std.specs.Float.Ieee.{fits, eq}
 use Rattle.vectors.specs.declared.Vec3.{Vec3}
-use Rattle.vectors.specs.declared.Normalized.{Normalized}
-use Rattle.vectors.specs.declared.Normalized.TheVariants.{Scaled, Zeros}
 use Rattle.vectors.specs.Number.{◌⊕◌, ◌⊖◌, ◌⊗◌, ◌⊘◌, ◌>ᶠ◌, zero, one, finite, plus_zero}
 use Rattle.vectors.specs.Root.{root}
 
@@ -53,17 +51,15 @@ unfolding length_recip ◌*ᵥ◌
 normalize v = v *ᵥ length_recip v
 
 -- glam's gives the vector alone: `vector_of` of this
-unfoldable pub normalize_or_zero : Vec3 → Normalized
+unfoldable pub normalize_or_zero : Vec3 → Option Vec3
 unfolding length_recip finite ◌*ᵥ◌
-normalize_or_zero v = let s = length_recip v in cond (finite s && s >ᶠ zero) (Scaled (v *ᵥ s)) Zeros
+normalize_or_zero v = let s = length_recip v in cond (finite s && s >ᶠ zero) (Some (v *ᵥ s)) None
 
-abbrev pub vector_of : Normalized → Vec3
-vector_of (Scaled v) = v
-vector_of Zeros = zero_vec
+abbrev pub vector_of : Option Vec3 → Vec3
+vector_of given = unwrap_or given zero_vec
 
-abbrev pub is_zeros : Normalized → Bool
-is_zeros (Scaled v) = false
-is_zeros Zeros = true
+abbrev pub is_zeros : Option Vec3 → Bool
+is_zeros given = is_none given
 
 unfoldable pub distance_squared : Vec3 → Vec3 → Float
 unfolding ◌-ᵥ◌ length_squared

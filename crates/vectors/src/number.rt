@@ -3,60 +3,51 @@
 ghost use Rattle.std.specs.Prelude.{◌≡◌};
 ghost use Rattle.vectors.specs.Number.{finite, larger, smaller, clamped, plus_zero, of_word, to_word};
 
-use super::Clamped;
-
 // Rust's `RVO_EPSILON`, 0x3727C5AC.
 pub const RVO_EPSILON: f32 = 0.00001;
 
-// Whether x is neither a NaN nor an infinity.
+// Whether x is neither a NaN nor an infinity. Two comparisons: the toolchain's `is_finite` takes x from itself.
 pub fn is_finite(x: f32) -> bool
     ensures { result ≡ finite x }
 {
     let infinity = 1.0 / 0.0;
-    if x < infinity { -infinity < x } else { false }
+    x < infinity && -infinity < x
 }
 
 // The larger of an old bound and a new number: of a NaN and a number the number, and the old one
-// where they are equal.
+// where they are equal. The toolchain's `max` and `min` leave open which of two equal zeros they give.
+#[tactic(auto, unfolding(crate::specs::Number::larger))]
 pub fn larger_of(old: f32, new: f32) -> f32
     ensures { result ≡ larger old new }
 {
-    if old != old {
-        new
-    } else if old < new {
-        new
-    } else {
-        old
-    }
+    if old.is_nan() || old < new { new } else { old }
 }
 
-// The smaller of the two, by the same rules.
+// The smaller of the two, by the same rules; of one comparison, which a function shared by both would have to be lent.
+#[tactic(auto, unfolding(crate::specs::Number::smaller))]
 pub fn smaller_of(old: f32, new: f32) -> f32
     ensures { result ≡ smaller old new }
 {
-    if old != old {
-        new
-    } else if new < old {
-        new
-    } else {
-        old
-    }
+    if old.is_nan() || new < old { new } else { old }
 }
 
-// x moved to the nearer of the two bounds where it lies outside them. A NaN stays a NaN.
-pub fn clamp(x: f32, low: f32, high: f32) -> Clamped
+// x moved to the nearer of the two bounds where it lies outside them, and `None` where the lower bound is not `<=` the
+// upper, where Rust panics. A NaN stays a NaN.
+#[tactic(auto, unfolding(crate::specs::Number::clamped))]
+pub fn clamp(x: f32, low: f32, high: f32) -> Option<f32>
     ensures { result ≡ clamped x low high }
 {
     if low <= high {
         let raised = if x < low { low } else { x };
         let value = if raised > high { high } else { raised };
-        Clamped::Value(value)
+        Some(value)
     } else {
-        Clamped::BadBounds
+        None
     }
 }
 
 // x, with a zero of either sign written as +0.
+#[tactic(auto, unfolding(crate::specs::Number::plus_zero))]
 pub fn plus_zero(x: f32) -> f32
     ensures { result ≡ plus_zero x }
 {
@@ -75,8 +66,9 @@ pub fn from_word(word: u32) -> f32
 }
 
 // The bit pattern of x; a NaN gives 0x7FC00000.
+#[tactic(auto, using(crate::proofs::NotANumber::nan_word))]
 pub fn to_word(x: f32) -> u32
     ensures { result ≡ to_word x }
 {
-    if x != x { 0x7FC0_0000 } else { f32::to_bits(x) }
+    if x.is_nan() { 0x7FC0_0000 } else { x.to_bits() }
 }

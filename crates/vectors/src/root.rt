@@ -58,6 +58,7 @@ fn nearest_root(m: u32) -> u32
     let mut rest = m;
     let mut twice: u32 = 0;
     let mut digit: u32 = 0x80_0000;
+    // no index: the place of a digit is halved
     while 0 < digit {
         let trial = twice + digit;
         let digit_is_zero = rest < trial;

@@ -19,7 +19,7 @@ struct Begun {
     high: u32,
 }
 
-// What a lane has after a digit.
+// What a lane has after a digit. A type of its own beside `Begun`: each names its second number for what that is.
 #[derive(Clone, Copy)]
 struct Turn {
     rest: u32,
@@ -27,7 +27,8 @@ struct Turn {
 }
 
 // The pattern of a positive finite number, and that of 1 for any other. Asked of the pattern, whether x is finite is one
-// comparison in every lane; asked of x, the compiler makes it a test of x's kind, and that lane by lane.
+// comparison in every lane; asked of x, the compiler makes it a test of x's kind, and that lane by lane. It is cast to i32,
+// here and in `turned`, since the least vector unit compares signed numbers alone.
 fn word_of(x: f32) -> u32
     ensures { Stands x result }
 {
@@ -43,7 +44,7 @@ fn word_of(x: f32) -> u32
     }
 }
 
-// What `scale` gives, by selection.
+// What `scale` gives, by selection, which lanes side by side need; where there is one root the branch of `scale` is faster.
 fn lifted(word: u32) -> Scaled
     requires { (0 < word) × (word < 0x7F80_0000) }
     ensures { Parts (of_word word) result.digits result.power }
@@ -90,27 +91,25 @@ fn turned(rest: u32, twice: u32, digit: u32) -> Turn
 }
 
 // `nearest_root` of each.
-fn nearest_roots(m: [u32; 8]) -> [u32; 8]
+fn nearest_roots(m: [u32; LANES]) -> [u32; LANES]
     requires { Lanes m × EachLane (λ k. get_or m k 0 < 2 ^ 25) }
     ensures { Lanes result × EachLane (λ k. get_or result k 0 ≡ nearest_root (get_or m k 0 * 2 ^ 23)) }
 {
+    // an array for each number, and not one of `Turn`s: eight of a kind side by side fill a vector register
     let mut rest = m;
-    let mut twice: [u32; 8] = [0; 8];
+    let mut twice: [u32; LANES] = [0; LANES];
     let mut digit: u32 = 0x80_0000;
+    // no index: the place of a digit is halved
     while 0 < digit {
-        let mut lane = 0;
-        while lane < LANES {
+        for lane in 0..LANES {
             let next = turned(rest[lane], twice[lane], digit);
             rest[lane] = next.rest;
             twice[lane] = next.twice;
-            lane += 1;
         }
         digit = digit >> 1;
     }
-    let mut lane = 0;
-    while lane < LANES {
+    for lane in 0..LANES {
         twice[lane] = rounded(rest[lane], twice[lane]);
-        lane += 1;
     }
     twice
 }
@@ -126,24 +125,20 @@ fn ended(x: f32, word: u32) -> f32
     if x > 0.0 { above } else { not_above }
 }
 
-pub fn roots(x: [f32; 8]) -> [f32; 8]
+pub fn roots(x: [f32; LANES]) -> [f32; LANES]
     ensures { result ≡ map root x }
 {
-    let mut rest: [u32; 8] = [0; 8];
-    let mut high: [u32; 8] = [0; 8];
-    let mut lane = 0;
-    while lane < LANES {
+    let mut rest: [u32; LANES] = [0; LANES];
+    let mut high: [u32; LANES] = [0; LANES];
+    for lane in 0..LANES {
         let first = begin(x[lane]);
         rest[lane] = first.rest;
         high[lane] = first.high;
-        lane += 1;
     }
     let found = nearest_roots(rest);
     let mut y = x;
-    let mut lane = 0;
-    while lane < LANES {
+    for lane in 0..LANES {
         y[lane] = ended(x[lane], high[lane] + found[lane]);
-        lane += 1;
     }
     y
 }

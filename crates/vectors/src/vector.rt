@@ -3,14 +3,15 @@
 // `normalize_or_zero` glam gives the vector alone.
 // The definitions, in `specs/Vec3.antt`, are document 01's lines on glam.
 ghost use Rattle.std.specs.Prelude.{◌≡◌};
-ghost use Rattle.vectors.specs.Vec3.{zero_vec, ◌+ᵥ◌, ◌-ᵥ◌, ◌*ᵥ◌, ◌/ᵥ◌, dot, cross, length_squared, length, length_recip, normalize, normalize_or_zero, vector_of, is_zeros, distance_squared, finite_vec, plus_zeros};
+ghost use Rattle.vectors.specs.Vec3.{zero_vec, ◌+ᵥ◌, ◌-ᵥ◌, ◌*ᵥ◌, ◌/ᵥ◌, dot, cross, length_squared, length, length_recip, normalize, normalize_or_zero, distance_squared, finite_vec, plus_zeros};
 
+use super::Vec3;
 use super::number::{is_finite, plus_zero};
 use super::root::root;
-use super::{Normalized, Vec3};
 
 impl Vec3 {
     // Three +0s.
+    #[tactic(auto, unfolding(crate::specs::Vec3::zero_vec))]
     pub fn zero() -> Vec3
         ensures { result ≡ zero_vec }
     {
@@ -21,6 +22,7 @@ impl Vec3 {
         }
     }
 
+    #[tactic(auto, using(crate::proofs::vector::ByComponent::by_component))]
     pub fn add(self, other: Vec3) -> Vec3
         ensures { result ≡ self +ᵥ other }
     {
@@ -31,6 +33,7 @@ impl Vec3 {
         }
     }
 
+    #[tactic(auto, using(crate::proofs::vector::ByComponent::by_component))]
     pub fn sub(self, other: Vec3) -> Vec3
         ensures { result ≡ self -ᵥ other }
     {
@@ -42,6 +45,7 @@ impl Vec3 {
     }
 
     // The product with a scalar.
+    #[tactic(auto, using(crate::proofs::vector::ByComponent::by_component))]
     pub fn mul(self, factor: f32) -> Vec3
         ensures { result ≡ self *ᵥ factor }
     {
@@ -53,6 +57,7 @@ impl Vec3 {
     }
 
     // The quotient by a scalar: three divisions.
+    #[tactic(auto, using(crate::proofs::vector::ByComponent::by_component))]
     pub fn div(self, divisor: f32) -> Vec3
         ensures { result ≡ self /ᵥ divisor }
     {
@@ -63,12 +68,14 @@ impl Vec3 {
         }
     }
 
+    #[tactic(auto, unfolding(crate::specs::Vec3::dot))]
     pub fn dot(self, other: Vec3) -> f32
         ensures { result ≡ dot self other }
     {
         self.x * other.x + self.y * other.y + self.z * other.z
     }
 
+    #[tactic(auto, unfolding(crate::specs::Vec3::cross))]
     pub fn cross(self, other: Vec3) -> Vec3
         ensures { result ≡ cross self other }
     {
@@ -79,47 +86,49 @@ impl Vec3 {
         }
     }
 
+    #[tactic(auto, unfolding(crate::specs::Vec3::length_squared))]
     pub fn length_squared(self) -> f32
         ensures { result ≡ length_squared self }
     {
         self.dot(self)
     }
 
+    #[tactic(auto, unfolding(crate::specs::Vec3::length))]
     pub fn length(self) -> f32
         ensures { result ≡ length self }
     {
         root(self.dot(self))
     }
 
+    #[tactic(auto, unfolding(crate::specs::Vec3::length_recip))]
     pub fn length_recip(self) -> f32
         ensures { result ≡ length_recip self }
     {
         1.0 / self.length()
     }
 
+    #[tactic(auto, unfolding(crate::specs::Vec3::normalize))]
     pub fn normalize(self) -> Vec3
         ensures { result ≡ normalize self }
     {
         self.mul(self.length_recip())
     }
 
-    // The vector scaled to length 1, or zeros where the reciprocal of its length is not both finite and
-    // above 0.
-    pub fn normalize_or_zero(self) -> Normalized
+    // The vector scaled to length 1, or `None`, which stands for three +0s, where the reciprocal of its length is not
+    // both finite and above 0.
+    #[tactic(auto, unfolding(crate::specs::Vec3::normalize_or_zero))]
+    pub fn normalize_or_zero(self) -> Option<Vec3>
         ensures { result ≡ normalize_or_zero self }
     {
         let scale = self.length_recip();
-        if is_finite(scale) {
-            if scale > 0.0 {
-                Normalized::Scaled(self.mul(scale))
-            } else {
-                Normalized::Zeros
-            }
+        if is_finite(scale) && scale > 0.0 {
+            Some(self.mul(scale))
         } else {
-            Normalized::Zeros
+            None
         }
     }
 
+    #[tactic(auto, unfolding(crate::specs::Vec3::distance_squared))]
     pub fn distance_squared(self, other: Vec3) -> f32
         ensures { result ≡ distance_squared self other }
     {
@@ -127,18 +136,11 @@ impl Vec3 {
     }
 
     // Whether every component is finite.
+    #[tactic(auto, unfolding(crate::specs::Vec3::finite_vec))]
     pub fn is_finite(self) -> bool
         ensures { result ≡ finite_vec self }
     {
-        if is_finite(self.x) {
-            if is_finite(self.y) {
-                is_finite(self.z)
-            } else {
-                false
-            }
-        } else {
-            false
-        }
+        is_finite(self.x) && is_finite(self.y) && is_finite(self.z)
     }
 
     // The vector, with a component that is a zero of either sign written as +0.
@@ -149,26 +151,6 @@ impl Vec3 {
             x: plus_zero(self.x),
             y: plus_zero(self.y),
             z: plus_zero(self.z),
-        }
-    }
-}
-
-impl Normalized {
-    pub fn vector(self) -> Vec3
-        ensures { result ≡ vector_of self }
-    {
-        match self {
-            Normalized::Scaled(vector) => vector,
-            Normalized::Zeros => Vec3::zero(),
-        }
-    }
-
-    pub fn is_zeros(self) -> bool
-        ensures { result ≡ is_zeros self }
-    {
-        match self {
-            Normalized::Scaled(_) => false,
-            Normalized::Zeros => true,
         }
     }
 }

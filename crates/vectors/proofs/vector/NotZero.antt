@@ -17,9 +17,8 @@ use lib.Ieee.Nearest.{closest, closest_mono, nearest-ge}
 use lib.Ieee.Order.{round_mono}
 use lib.Ieee.Positive.{num, den, positive, first_pos, le→cross}
 use borrow.Author.Tests.{ltb-true, eqb-false}
+use Rattle.std.specs.Prelude.{Option, Some, None}
 use Rattle.vectors.specs.declared.Vec3.{Vec3}
-use Rattle.vectors.specs.declared.Normalized.{Normalized}
-use Rattle.vectors.specs.declared.Normalized.TheVariants.{Scaled, Zeros}
 use Rattle.vectors.specs.Number.{◌⊕◌, ◌⊗◌, ◌⊘◌, ◌>ᶠ◌, one, zero as zero32, finite}
 use Rattle.vectors.specs.Root.{root, nearest_root}
 use Rattle.vectors.specs.Vec3.{zero_vec, ◌*ᵥ◌, dot, length_recip, normalize_or_zero, vector_of, is_zeros, all_zero}
@@ -219,8 +218,8 @@ normalized-zeros v = go (finite (length_recip v)) refl (length_recip v >ᶠ zero
     scale : Float
     scale = length_recip v
 
-    given : Bool → Normalized
-    given b = cond b (Scaled (v *ᵥ scale)) Zeros
+    given : Bool → Option Vec3
+    given b = cond b (Some (v *ᵥ scale)) None
 
     go : (a : Bool) → finite scale ≡ a → (b : Bool) → (scale >ᶠ zero32) ≡ b → is_zeros (given (a && b)) ≡ all_zero (vector_of (given (a && b)))
     go true ends true above = sym (scaled-not-zero v ends above)

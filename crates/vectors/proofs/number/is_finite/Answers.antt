@@ -1,5 +1,5 @@
 -- Each infinity is a quotient of literals, which antt computes; then both tests are known for each kind of number.
-use mathlib.Core.Path.{◌≡◌, refl, sym}
+use mathlib.Core.Path.{◌≡◌, refl, sym, ◌∙◌}
 use mathlib.Core.Bool.{true, false}
 use lib.Ieee.{Float, nan, inf, fin, lt, neg, div, of_bits}
 use Rattle.vectors.specs.Number.{finite, zero, one, ◌⊘◌}
@@ -22,4 +22,4 @@ pub returns-then-x-infinity : goal.returns-then-x-infinity
 returns-then-x-infinity c = below-infinity c.args.x c.if-x-infinity.true
 
 pub returns-else-x-infinity : goal.returns-else-x-infinity
-returns-else-x-infinity c = not-below c.args.x c.if-x-infinity.false
+returns-else-x-infinity c = c.if-x-infinity.false ∙ not-below c.args.x c.if-x-infinity.false

@@ -1,7 +1,7 @@
 -- Where the exponent's field is 0 the leading zeros say how far the digits are moved up; elsewhere the pattern's digits lack only their first one, which is added.
 use mathlib.Core.Path.{sym, subst}
 use Prim.Native.Nat.{ℕ, ◌+◌, ◌*◌, ◌-◌, ◌/◌, ◌^◌, ◌≤◌, ◌<◌}
-use lib.Bits.{and_mask, mask_lt}
+use lib.Bits.{and_mask}
 use lib.Count.{count_leading_zeros}
 use native.Mathlib.Nat.{mod-eq_of_lt}
 use native.Mathlib.Omega.{arith}
@@ -19,15 +19,6 @@ bounds c = shift-bounds c.args.word c.requires.0 (small c)
 
 pub overflow_sub-shift : goal.overflow_sub-shift
 overflow_sub-shift c = (bounds c).0
-
-pub overflow_shl-result : goal.overflow_shl-result
-overflow_shl-result c = omega (arith, bounds c)
-
-pub overflow_sub-result : goal.overflow_sub-result
-overflow_sub-result c = omega (arith, bounds c)
-
-pub overflow_add-result : goal.overflow_add-result
-overflow_add-result c = record { fits = omega (arith, mask_lt c.args.word 23) }
 
 pub returns-then-field-eq0 : goal.returns-then-field-eq0
 returns-then-field-eq0 c =

@@ -3,7 +3,7 @@ use mathlib.Core.Path.{◌≡◌, sym, ap, ◌∙◌, subst₂}
 use Prim.Native.Nat.{ℕ, ◌+◌, ◌-◌, ◌*◌, ◌/◌, ◌%◌, ◌^◌, ◌≤◌, ◌<◌}
 use native.Mathlib.Nat.{mod-eq_of_lt, mul-one}
 use native.Mathlib.Omega.{arith}
-use lib.Bits.{bit_and, and_mask, mask_lt}
+use lib.Bits.{bit_and, and_mask}
 use Rattle.vectors.specs.Number.{of_word}
 use Rattle.vectors.specs.parts.Root.{Parts}
 use Rattle.vectors.proofs.root.Binary.{normal-parts, subnormal-parts, shift_of, shift-bounds}
@@ -56,18 +56,6 @@ selected c =
 
 pub overflow_sub-shift : goal.overflow_sub-shift
 overflow_sub-shift c = (shift-bounds c.args.word c.requires.0 (omega (arith, c.if-field-eq0.true))).0
-
-pub overflow_shl-result : goal.overflow_shl-result
-overflow_shl-result c = omega (arith, (selected c.before.before).few)
-
-pub overflow_add-result : goal.overflow_add-result
-overflow_add-result c = record { fits = omega (arith, mask_lt (c.args.word * 2 ^ c.if-field-eq0.shift % 2 ^ 32) 23) }
-
-pub overflow_add-result-2 : goal.overflow_add-result-2
-overflow_add-result-2 c = record { fits = omega (arith, (selected c.before.before).power-most) }
-
-pub overflow_sub-result : goal.overflow_sub-result
-overflow_sub-result c = (selected c.before.before).power-least
 
 pub returns : goal.returns
 returns c = (selected c.before.before).parts

@@ -1,5 +1,5 @@
 use mathlib.Core.Path.{◌≡◌}
-use Prim.Native.Nat.{ℕ, ◌-◌, ◌≤◌, ◌<◌}
+use Prim.Native.Nat.{ℕ, ◌<◌}
 use lib.ListN.{get_or}
 use lib.Ieee.{nan}
 use Rattle.vectors.specs.Root.{root}
@@ -7,13 +7,7 @@ use Rattle.vectors.specs.parts.Roots.{Lanes, Begins}
 use Rattle.vectors.proofs.roots.roots.Given as goal
 
 abbrev pub invariant-loop-lane : goal.invariant-loop-lane
-invariant-loop-lane l = (l.lane ≤ 8) × Lanes l.rest × Lanes l.high × ((i : ℕ) → i < l.lane → Begins (get_or l.x i nan) (get_or l.rest i 0) (get_or l.high i 0))
-
-abbrev pub decreases-loop-lane : goal.decreases-loop-lane
-decreases-loop-lane l = 8 - l.lane
+invariant-loop-lane l = Lanes l.rest × Lanes l.high × ((i : ℕ) → i < l.lane → Begins (get_or l.x i nan) (get_or l.rest i 0) (get_or l.high i 0))
 
 abbrev pub invariant-loop-lane-2 : goal.invariant-loop-lane-2
-invariant-loop-lane-2 l = (l.lane ≤ 8) × Lanes l.y × ((i : ℕ) → i < l.lane → get_or l.y i nan ≡ root (get_or l.x i nan))
-
-abbrev pub decreases-loop-lane-2 : goal.decreases-loop-lane-2
-decreases-loop-lane-2 l = 8 - l.lane
+invariant-loop-lane-2 l = Lanes l.y × ((i : ℕ) → i < l.lane → get_or l.y i nan ≡ root (get_or l.x i nan))
