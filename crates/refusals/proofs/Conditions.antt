@@ -11,26 +11,25 @@ use lib.Dec.{eqb}
 use lib.ListN.{length, get_or, drop, set, length-set, drop_of_length-le}
 use lib.Seq.{drop-cons, get_or-set_same, get_or-set_other}
 use borrow.Author.Tests.{eqb-true, eqb-false}
-use Rattle.refusals.specs.declared.Found.{Found}
-use Rattle.refusals.specs.declared.Found.TheVariants.{At, Nothing}
 use Rattle.refusals.specs.Conditions.{first_holding, marked, first_bad, Lowest}
+use Rattle.std.specs.Prelude.{Option, Some, None}
 
 -- ---- what was found
 
-pub no_place : {P : Type 0} {i : ℕ} → Nothing ≡ At i → P
+pub no_place : {P : Type 0} {i : ℕ} → None ≡ Some i → P
 no_place e = let z : ◌≡◌ {A = ℕ} 0 1 = cc in absurd (omega arith)
 
-abbrev pub index_of : Found → ℕ
-index_of (At i) = i
-index_of Nothing = 0
+abbrev pub index_of : Option ℕ → ℕ
+index_of (Some i) = i
+index_of None = 0
 
-pub same_place : {i j : ℕ} → At i ≡ At j → i ≡ j
+pub same_place : {i j : ℕ} → Some i ≡ Some j → i ≡ j
 same_place e = ap index_of e
 
 -- what one list has, or else what the next has
-abbrev pub or_else : Found → Found → Found
-or_else (At place) next = At place
-or_else Nothing next = next
+abbrev pub or_else : Option ℕ → Option ℕ → Option ℕ
+or_else (Some place) next = Some place
+or_else None next = next
 
 pub holding-append : (cs ds : List (ℕ × Bool)) → first_holding (cs ++ ds) ≡ or_else (first_holding cs) (first_holding ds)
 unfolding first_holding
@@ -40,9 +39,9 @@ holding-append ((n, false) ∷ cs) ds = holding-append cs ds
 
 -- ---- conditions by other numbers
 
-abbrev pub found_as : (ℕ → ℕ) → Found → Found
-found_as f (At n) = At (f n)
-found_as f Nothing = Nothing
+abbrev pub found_as : (ℕ → ℕ) → Option ℕ → Option ℕ
+found_as f (Some n) = Some (f n)
+found_as f None = None
 
 abbrev pub renumbered : (ℕ → ℕ) → List (ℕ × Bool) → List (ℕ × Bool)
 renumbered f [] = []
@@ -77,7 +76,7 @@ module _ {A : Type 0} (bad : ℕ → A → Bool) where
 
   -- ---- one element, and those after it
 
-  pub first-here : (i : ℕ) (x : A) (xs l : List A) → l ≡ x ∷ xs → bad i x ≡ true → first_bad bad i l ≡ At i
+  pub first-here : (i : ℕ) (x : A) (xs l : List A) → l ≡ x ∷ xs → bad i x ≡ true → first_bad bad i l ≡ Some i
   unfolding first_holding marked
   first-here i x xs l is bad-is = rw (is, bad-is)
 
@@ -85,22 +84,22 @@ module _ {A : Type 0} (bad : ℕ → A → Bool) where
   unfolding first_holding marked
   first-later i x xs l is good-is = rw (is, good-is, add-one i)
 
-  pub first-none : (i : ℕ) (l : List A) → l ≡ [] → first_bad bad i l ≡ Nothing
+  pub first-none : (i : ℕ) (l : List A) → l ≡ [] → first_bad bad i l ≡ None
   unfolding first_holding marked
   first-none i l is = rw is
 
   -- a list that is written out, element by element
-  pub first_of : (i : ℕ) (x : A) (xs : List A) → first_bad bad i (x ∷ xs) ≡ cond (bad i x) (At i) (first_bad bad (suc i) xs)
+  pub first_of : (i : ℕ) (x : A) (xs : List A) → first_bad bad i (x ∷ xs) ≡ cond (bad i x) (Some i) (first_bad bad (suc i) xs)
   unfolding first_holding marked
   first_of i x xs = refl
 
-  pub first-of-one : (i : ℕ) (x : A) → first_bad bad i (x ∷ []) ≡ cond (bad i x) (At i) Nothing
-  first-of-one i x = first_of i x [] ∙ ap (cond (bad i x) (At i)) (first-none (suc i) [] refl)
+  pub first-of-one : (i : ℕ) (x : A) → first_bad bad i (x ∷ []) ≡ cond (bad i x) (Some i) None
+  first-of-one i x = first_of i x [] ∙ ap (cond (bad i x) (Some i)) (first-none (suc i) [] refl)
 
   -- ---- a loop over the list, which has come to the element at `index`
 
   -- that is the first bad one
-  pub bad-here : (start index : ℕ) (xs : List A) (d : A) → index < length xs → bad (start + index) (get_or xs index d) ≡ true → first_bad bad (start + index) (drop index xs) ≡ At (start + index)
+  pub bad-here : (start index : ℕ) (xs : List A) (d : A) → index < length xs → bad (start + index) (get_or xs index d) ≡ true → first_bad bad (start + index) (drop index xs) ≡ Some (start + index)
   unfolding first_holding marked
   bad-here start index xs d h is = rw (drop-cons xs index d h, is)
 
@@ -121,25 +120,25 @@ module _ {A : Type 0} (bad : ℕ → A → Bool) where
       ∙ ap (λ (k : ℕ). first_bad bad (start + k) (drop k xs)) next
 
   -- none is left
-  pub bad-past : (place index : ℕ) (xs : List A) → length xs ≤ index → first_bad bad place (drop index xs) ≡ Nothing
+  pub bad-past : (place index : ℕ) (xs : List A) → length xs ≤ index → first_bad bad place (drop index xs) ≡ None
   unfolding first_holding marked
   bad-past place index xs h = ap (first_bad bad place) (drop_of_length-le xs h)
 
   -- ---- what the answer says of the elements
 
-  pub none-bad : (start : ℕ) (xs : List A) → first_bad bad start xs ≡ Nothing → (index : ℕ) (d : A) → index < length xs → bad (start + index) (get_or xs index d) ≡ false
+  pub none-bad : (start : ℕ) (xs : List A) → first_bad bad start xs ≡ None → (index : ℕ) (d : A) → index < length xs → bad (start + index) (get_or xs index d) ≡ false
   unfolding first_holding marked
   none-bad start [] e index d h = absurd (not-suc-le-zero h)
   none-bad start (x ∷ xs) e index d h = go (bad start x) refl e (none-bad (suc start) xs) index h
     where
-      go : (b : Bool) → bad start x ≡ b → cond b (At start) (first_bad bad (suc start) xs) ≡ Nothing
-          → (first_bad bad (suc start) xs ≡ Nothing → (index : ℕ) (d : A) → index < length xs → bad (suc start + index) (get_or xs index d) ≡ false)
+      go : (b : Bool) → bad start x ≡ b → cond b (Some start) (first_bad bad (suc start) xs) ≡ None
+          → (first_bad bad (suc start) xs ≡ None → (index : ℕ) (d : A) → index < length xs → bad (suc start + index) (get_or xs index d) ≡ false)
           → (index : ℕ) → index < length (x ∷ xs) → bad (start + index) (get_or (x ∷ xs) index d) ≡ false
       go true is e later index h = no_place (sym e)
       go false is e later zero h = ap (λ (k : ℕ). bad k x) (add-zero start) ∙ is
       go false is e later (suc index) h = ap (λ (k : ℕ). bad k (get_or xs index d)) (add-suc start index ∙ sym (suc-add start index)) ∙ later e index d (le_of_suc-le-suc h)
 
-  pub all-good : (start : ℕ) (xs : List A) (d : A) → ((index : ℕ) → index < length xs → bad (start + index) (get_or xs index d) ≡ false) → first_bad bad start xs ≡ Nothing
+  pub all-good : (start : ℕ) (xs : List A) (d : A) → ((index : ℕ) → index < length xs → bad (start + index) (get_or xs index d) ≡ false) → first_bad bad start xs ≡ None
   unfolding first_holding marked
   all-good start [] d good = refl
   all-good start (x ∷ xs) d good =
@@ -147,7 +146,7 @@ module _ {A : Type 0} (bad : ℕ → A → Bool) where
       (all-good (suc start) xs d (λ index h. ap (λ (k : ℕ). bad k (get_or xs index d)) (suc-add start index ∙ sym (add-suc start index)) ∙ good (suc index) (omega (arith, h))))
 
   -- where none is bad and a good one takes another's place, none is bad
-  pub set-good : (xs : List A) (i : ℕ) (a d : A) → bad i a ≡ false → first_bad bad 0 xs ≡ Nothing → first_bad bad 0 (set xs i a) ≡ Nothing
+  pub set-good : (xs : List A) (i : ℕ) (a d : A) → bad i a ≡ false → first_bad bad 0 xs ≡ None → first_bad bad 0 (set xs i a) ≡ None
   set-good xs i a d good none = all-good 0 (set xs i a) d (λ j h. go j (rw (length-set xs i a) at h) (eqb j i) refl)
     where
       go : (j : ℕ) → j < length xs → (b : Bool) → eqb j i ≡ b → bad (0 + j) (get_or (set xs i a) j d) ≡ false
@@ -155,7 +154,7 @@ module _ {A : Type 0} (bad : ℕ → A → Bool) where
       go j h false is = rw (get_or-set_other xs i j a d (eqb-false j i is)) (none-bad 0 xs none j d h)
 
   -- what was found is the lowest bad one
-  pub found-lowest : (start : ℕ) (xs : List A) (d : A) (place : ℕ) → first_bad bad start xs ≡ At place → Lowest bad start xs d place
+  pub found-lowest : (start : ℕ) (xs : List A) (d : A) (place : ℕ) → first_bad bad start xs ≡ Some place → Lowest bad start xs d place
   unfolding first_holding marked
   found-lowest start [] d place e = no_place e
   found-lowest start (x ∷ xs) d place e = go (bad start x) refl e (found-lowest (suc start) xs d place)
@@ -163,7 +162,7 @@ module _ {A : Type 0} (bad : ℕ → A → Bool) where
       next : (index : ℕ) → suc start + index ≡ start + suc index
       next index = suc-add start index ∙ sym (add-suc start index)
 
-      go : (b : Bool) → bad start x ≡ b → cond b (At start) (first_bad bad (suc start) xs) ≡ At place → (first_bad bad (suc start) xs ≡ At place → Lowest bad (suc start) xs d place) → Lowest bad start (x ∷ xs) d place
+      go : (b : Bool) → bad start x ≡ b → cond b (Some start) (first_bad bad (suc start) xs) ≡ Some place → (first_bad bad (suc start) xs ≡ Some place → Lowest bad (suc start) xs d place) → Lowest bad start (x ∷ xs) d place
       go true is e later = record {
         index = 0;
         at = omega (arith, same_place e);
@@ -185,13 +184,13 @@ module _ {A : Type 0} (bad : ℕ → A → Bool) where
           before index earlier zero h = ap (λ (k : ℕ). bad k x) (add-zero start) ∙ is
           before index earlier (suc i) h = ap (λ (k : ℕ). bad k (get_or xs i d)) (sym (next i)) ∙ earlier i (le_of_suc-le-suc h)
 
-  lowest-found : (start : ℕ) (xs : List A) (d : A) (place : ℕ) → Lowest bad start xs d place → first_bad bad start xs ≡ At place
+  lowest-found : (start : ℕ) (xs : List A) (d : A) (place : ℕ) → Lowest bad start xs d place → first_bad bad start xs ≡ Some place
   lowest-found start xs d place low =
       ap (λ (k : ℕ). first_bad bad k xs) (sym (add-zero start))
       ∙ bad-skip low.index start 0 xs d (omega (arith, low.within)) (λ k less. rw (zero-add k) (low.none_before k less))
       ∙ ap (λ (k : ℕ). first_bad bad (start + k) (drop k xs)) (zero-add low.index)
       ∙ bad-here start low.index xs d low.within low.is-bad
-      ∙ ap At (sym low.at)
+      ∙ ap Some (sym low.at)
 
-  pub lowest : (start : ℕ) (xs : List A) (d : A) (place : ℕ) → (first_bad bad start xs ≡ At place) ↔ Lowest bad start xs d place
+  pub lowest : (start : ℕ) (xs : List A) (d : A) (place : ℕ) → (first_bad bad start xs ≡ Some place) ↔ Lowest bad start xs d place
   lowest start xs d place = (found-lowest start xs d place, lowest-found start xs d place)

@@ -4,16 +4,13 @@ use mathlib.Core.Bool.{Bool, true, false, not, cond}
 use mathlib.Core.List.{List, [], ◌∷◌, ◌++◌}
 use Prim.Native.Nat.{ℕ}
 use native.Mathlib.Omega.{arith}
-use Rattle.refusals.specs.declared.Found.{Found}
-use Rattle.refusals.specs.declared.Found.TheVariants.{At, Nothing}
 use Rattle.refusals.specs.declared.Refusal.{Refusal}
 use Rattle.refusals.specs.declared.Refusal.TheVariants as refusal
-use Rattle.refusals.specs.declared.Verdict.{Verdict}
-use Rattle.refusals.specs.declared.Verdict.TheVariants.{Passed, Refused}
 use Rattle.refusals.specs.Refusal.{number}
 use Rattle.refusals.specs.Conditions.{first_holding, is_found}
-use Rattle.refusals.specs.Verdict.{◌⊳◌, refused_if, refused_at}
+use Rattle.refusals.specs.Verdict.{◌⊳◌, refused_if, refused_at, Verdict, passed}
 use Rattle.refusals.proofs.Conditions.{or_else, holding-append}
+use Rattle.std.specs.Prelude.{Option, Some, None, Ok, Err}
 
 -- ---- passed or refused
 
@@ -38,46 +35,46 @@ not-answered (refusal.ShortBuffer needed) e = omega arith
 not-answered (refusal.TooManyNeighbours count) e = omega arith
 not-answered (refusal.BadClamp plane) e = omega arith
 
-pub not-passed : {P : Type 0} {r : Refusal} → Refused r ≡ Passed → P
+pub not-passed : {P : Type 0} {r : Refusal} → Err r ≡ passed → P
 not-passed e = let z : ◌≡◌ {A = ℕ} 0 1 = cc in absurd (omega arith)
 
 -- checks pass where each of them does
-pub both-passed : (v w : Verdict) → (v ⊳ w) ≡ Passed → (v ≡ Passed) × (w ≡ Passed)
-both-passed Passed w e = (refl, e)
-both-passed (Refused r) w e = not-passed e
+pub both-passed : (v w : Verdict) → (v ⊳ w) ≡ passed → (v ≡ passed) × (w ≡ passed)
+both-passed (Ok _) w e = (refl, e)
+both-passed (Err r) w e = not-passed e
 
-pub nothing-found : (found : Found) (refusal : ℕ → Refusal) → refused_at found refusal ≡ Passed → found ≡ Nothing
-nothing-found (At place) refusal e = not-passed e
-nothing-found Nothing refusal e = refl
+pub nothing-found : (found : Option ℕ) (refusal : ℕ → Refusal) → refused_at found refusal ≡ passed → found ≡ None
+nothing-found (Some place) refusal e = not-passed e
+nothing-found None refusal e = refl
 
-pub does-not-hold : (b : Bool) (r : Refusal) → refused_if b r ≡ Passed → b ≡ false
+pub does-not-hold : (b : Bool) (r : Refusal) → refused_if b r ≡ passed → b ≡ false
 does-not-hold true r e = not-passed e
 does-not-hold false r e = refl
 
-pub test-passed : (passes : Bool) (r : Refusal) → cond passes Passed (Refused r) ≡ Passed → passes ≡ true
+pub test-passed : (passes : Bool) (r : Refusal) → cond passes passed (Err r) ≡ passed → passes ≡ true
 test-passed true r e = refl
 test-passed false r e = not-passed e
 
 -- ---- what checks say
 
 -- the number of the refusal
-abbrev pub said : Verdict → Found
-said Passed = Nothing
-said (Refused r) = At (number r)
+abbrev pub said : Verdict → Option ℕ
+said (Ok _) = None
+said (Err r) = Some (number r)
 
 -- the conditions are those of the verdict
 abbrev pub Says : Verdict → List (ℕ × Bool) → Type 0
 Says v conditions = said v ≡ first_holding conditions
 
 said-then : (v w : Verdict) → said (v ⊳ w) ≡ or_else (said v) (said w)
-said-then Passed w = refl
-said-then (Refused r) w = refl
+said-then (Ok _) w = refl
+said-then (Err r) w = refl
 
 pub then : (v w : Verdict) (cs ds : List (ℕ × Bool)) → Says v cs → Says w ds → Says (v ⊳ w) (cs ++ ds)
-then v w cs ds e f = said-then v w ∙ ap (λ (found : Found). or_else found (said w)) e ∙ ap (or_else (first_holding cs)) f ∙ sym (holding-append cs ds)
+then v w cs ds e f = said-then v w ∙ ap (λ (found : Option ℕ). or_else found (said w)) e ∙ ap (or_else (first_holding cs)) f ∙ sym (holding-append cs ds)
 
 -- where nothing is checked, no condition holds
-pub none-says : Says Passed []
+pub none-says : Says passed []
 unfolding first_holding
 none-says = refl
 
@@ -88,7 +85,7 @@ held-says true r = refl
 held-says false r = refl
 
 -- refused exactly where a test fails, of which the condition is the contrary
-pub tested-says : (passes b : Bool) (r : Refusal) → b ≡ not passes → Says (cond passes Passed (Refused r)) ((number r, b) ∷ [])
+pub tested-says : (passes b : Bool) (r : Refusal) → b ≡ not passes → Says (cond passes passed (Err r)) ((number r, b) ∷ [])
 unfolding first_holding
 tested-says true true r e = let z : ◌≡◌ {A = ℕ} 0 1 = cc in absurd (omega arith)
 tested-says true false r e = refl
@@ -96,29 +93,29 @@ tested-says false true r e = refl
 tested-says false false r e = let z : ◌≡◌ {A = ℕ} 0 1 = cc in absurd (omega arith)
 
 -- refused exactly where something was found
-pub found-says : (found : Found) (refusal : ℕ → Refusal) (n : ℕ) (b : Bool) → ((place : ℕ) → number (refusal place) ≡ n) → is_found found ≡ b → Says (refused_at found refusal) ((n, b) ∷ [])
+pub found-says : (found : Option ℕ) (refusal : ℕ → Refusal) (n : ℕ) (b : Bool) → ((place : ℕ) → number (refusal place) ≡ n) → is_found found ≡ b → Says (refused_at found refusal) ((n, b) ∷ [])
 unfolding first_holding
-found-says (At place) refusal n true is e = ap At (is place)
-found-says (At place) refusal n false is e = let z : ◌≡◌ {A = ℕ} 0 1 = cc in absurd (omega arith)
-found-says Nothing refusal n true is e = let z : ◌≡◌ {A = ℕ} 0 1 = cc in absurd (omega arith)
-found-says Nothing refusal n false is e = refl
+found-says (Some place) refusal n true is e = ap Some (is place)
+found-says (Some place) refusal n false is e = let z : ◌≡◌ {A = ℕ} 0 1 = cc in absurd (omega arith)
+found-says None refusal n true is e = let z : ◌≡◌ {A = ℕ} 0 1 = cc in absurd (omega arith)
+found-says None refusal n false is e = refl
 
 -- ---- which refusals checks give
 
 -- what holds of each refusal that they can give holds of the one they give
 module _ (Q : Refusal → Type 0) where
   abbrev pub Gives : Verdict → Type 0
-  Gives Passed = Unit {0}
-  Gives (Refused r) = Q r
+  Gives (Ok _) = Unit {0}
+  Gives (Err r) = Q r
 
   pub gives_then : (v w : Verdict) → Gives v → Gives w → Gives (v ⊳ w)
-  gives_then Passed w first next = next
-  gives_then (Refused r) w first next = first
+  gives_then (Ok _) w first next = next
+  gives_then (Err r) w first next = first
 
   pub gives-held : (b : Bool) (r : Refusal) → Q r → Gives (refused_if b r)
   gives-held true r q = q
   gives-held false r q = tt
 
-  pub gives_found : (found : Found) (refusal : ℕ → Refusal) → ((place : ℕ) → found ≡ At place → Q (refusal place)) → Gives (refused_at found refusal)
-  gives_found (At place) refusal q = q place refl
-  gives_found Nothing refusal q = tt
+  pub gives_found : (found : Option ℕ) (refusal : ℕ → Refusal) → ((place : ℕ) → found ≡ Some place → Q (refusal place)) → Gives (refused_at found refusal)
+  gives_found (Some place) refusal q = q place refl
+  gives_found None refusal q = tt

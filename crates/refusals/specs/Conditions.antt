@@ -1,20 +1,18 @@
 -- Conditions, each with its number, and the first of them that holds; the elements of a list, each with its index, and the first that is bad.
-use Rattle.std.specs.Prelude.{ℕ, suc, ◌+◌, ◌<◌, ◌≡◌, Bool, true, false, cond, List, [], ◌∷◌, length, get_or}
-use Rattle.refusals.specs.declared.Found.{Found}
-use Rattle.refusals.specs.declared.Found.TheVariants.{At, Nothing}
+use Rattle.std.specs.Prelude.{ℕ, suc, ◌+◌, ◌<◌, ◌≡◌, Bool, true, false, cond, List, [], ◌∷◌, length, get_or, Option, Some, None}
 
 -- the number of the first that holds
-unfoldable pub first_holding : List (ℕ × Bool) → Found
-first_holding [] = Nothing
-first_holding ((n, b) ∷ conditions) = cond b (At n) (first_holding conditions)
+unfoldable pub first_holding : List (ℕ × Bool) → Option ℕ
+first_holding [] = None
+first_holding ((n, b) ∷ conditions) = cond b (Some n) (first_holding conditions)
 
 -- the first that holds has the number n
 abbrev pub First : ℕ → List (ℕ × Bool) → Type 0
-First n conditions = first_holding conditions ≡ At n
+First n conditions = first_holding conditions ≡ Some n
 
-abbrev pub is_found : Found → Bool
-is_found (At n) = true
-is_found Nothing = false
+abbrev pub is_found : Option ℕ → Bool
+is_found (Some n) = true
+is_found None = false
 
 -- one of them holds
 abbrev pub some : List (ℕ × Bool) → Bool
@@ -26,7 +24,7 @@ marked bad i [] = []
 marked bad i (x ∷ xs) = (i, bad i x) ∷ marked bad (suc i) xs
 
 -- the index of the first that is bad
-abbrev pub first_bad : {A : Type 0} → (ℕ → A → Bool) → ℕ → List A → Found
+abbrev pub first_bad : {A : Type 0} → (ℕ → A → Bool) → ℕ → List A → Option ℕ
 first_bad bad i xs = first_holding (marked bad i xs)
 
 -- what that means: the element at that place, which counts from `start`, is bad, and none before it is (d stands for what is past the list's end, and is never read)

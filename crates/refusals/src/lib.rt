@@ -6,7 +6,7 @@ ghost use Rattle.std.specs.Prelude.{◌≡◌};
 ghost use Rattle.refusals.specs.Refusal.{number, place_of};
 
 // A refusal holds what its place is made of.
-#[derive(Clone, Copy)]
+#[derive(Debug, Clone, Copy, PartialEq, Eq)]
 pub enum Refusal {
     RaggedNeighbours,
     ShortScratch { needed: usize },
@@ -26,20 +26,6 @@ pub enum Refusal {
     ShortBuffer { needed: usize },
     TooManyNeighbours { count: usize },
     BadClamp { plane: usize },
-}
-
-// What a call's checks say.
-#[derive(Clone, Copy)]
-pub enum Verdict {
-    Passed,
-    Refused(Refusal),
-}
-
-// The first place at which something was found.
-#[derive(Clone, Copy)]
-pub enum Found {
-    At(usize),
-    Nothing,
 }
 
 impl Refusal {
