@@ -2,7 +2,7 @@
 pub mod Planes
 pub mod Written
 pub mod LentPlanes
-pub mod LeftOver
+pub mod Stopped
 pub mod InTurn
 pub mod NoBadClamp
 pub mod Why

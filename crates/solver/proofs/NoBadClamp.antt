@@ -2,6 +2,7 @@
 use mathlib.Core.Path.{subst}
 use mathlib.Core.List.{List, []}
 use Prim.Native.Nat.{ℕ}
+use Rattle.std.specs.Prelude.{Option, Some, None}
 use lib.ListN.{length}
 use lib.Ieee.{Float, neg}
 use Rattle.vectors.specs.declared.Vec3.{Vec3}
@@ -15,8 +16,7 @@ use Rattle.solver.specs.declared.OnLine.{OnLine}
 use Rattle.solver.specs.declared.OnLine.TheVariants as onLine
 use Rattle.solver.specs.declared.OnPlane.{OnPlane}
 use Rattle.solver.specs.declared.OnPlane.TheVariants as onPlane
-use Rattle.solver.specs.declared.along_line.Cut.{Cut}
-use Rattle.solver.specs.declared.along_line.Cut.TheVariants.{Open, Shut}
+use Rattle.solver.specs.declared.along_line.Times.{Times}
 use Rattle.solver.specs.declared.Outcome.{Outcome}
 use Rattle.solver.specs.declared.Outcome.TheVariants as outcome
 use Rattle.solver.specs.Plane.{signed_distance}
@@ -42,18 +42,18 @@ sound_outcome (outcome.Infeasible f) = Unit {0}
 sound_outcome (outcome.BadClamp i) = ⊥
 
 module _ (radius x y z : Float) where
-  best-sound : (line : Line) (cut : Cut) → sound_line (best_on line (Direction x y z) cut)
+  best-sound : (line : Line) (times : Option Times) → sound_line (best_on line (Direction x y z) times)
   unfolding best_on
-  best-sound line Shut = tt
-  best-sound line (Open left right) = tt
+  best-sound line None = tt
+  best-sound line (Some times) = tt
 
   line-sound : (line : Line) (constraints : List Plane) → sound_line (along_line line radius constraints (Direction x y z))
   unfolding along_line
   line-sound line constraints =
       let line_dot = dot line.point line.direction in
       let discriminant = line_dot ⊗ line_dot ⊕ radius ⊗ radius ⊖ dot line.point line.point in
-      let cut = cut_all line constraints (Open (neg line_dot ⊖ root discriminant) (neg line_dot ⊕ root discriminant)) in
-      either sound_line (discriminant <ᶠ zero) tt (best-sound line cut)
+      let whole : Times = record { left = neg line_dot ⊖ root discriminant; right = neg line_dot ⊕ root discriminant } in
+      either sound_line (discriminant <ᶠ zero) tt (best-sound line (cut_all line constraints (Some whole)))
 
   from-line-sound : (a : OnLine) → sound_line a → sound_plane (from_line a)
   unfolding from_line

@@ -15,17 +15,18 @@ use Rattle.solver.specs.Lent.{plane_at, planes_of, planes_in}
 use Rattle.solver.proofs.InTurn.{stays}
 
 -- of the first n planes, those from index i on
-abbrev pub rest : ℕ → ℕ → List Float → List Plane
+unfoldable pub rest : ℕ → ℕ → List Float → List Plane
 rest n i xs = planes_of (n - i) (drop (6 * i) xs)
 
 pub rest_all : (n : ℕ) (xs : List Float) → rest n 0 xs ≡ planes_of n xs
+unfolding rest
 rest_all n xs = ap (λ (m : ℕ). planes_of m xs) (less_none n)
   where
     less_none : (n : ℕ) → n - 0 ≡ n
     less_none n = omega arith
 
 pub rest-step : (n i : ℕ) (xs : List Float) → i < n → rest n i xs ≡ plane_at (drop (6 * i) xs) ∷ rest n (i + 1) xs
-unfolding planes_of
+unfolding rest planes_of
 rest-step n i xs h =
     let fewer : n - i ≡ suc (n - (i + 1)) = omega arith in
     let next : 6 * i + 6 ≡ 6 * (i + 1) = omega arith in
@@ -33,7 +34,7 @@ rest-step n i xs h =
     ∙ ap (λ (ys : List Float). plane_at (drop (6 * i) xs) ∷ planes_of (n - (i + 1)) ys) (drop-drop 6 (6 * i) xs ∙ ap (λ (k : ℕ). drop k xs) next)
 
 pub rest-none : (n i : ℕ) (xs : List Float) → n ≤ i → rest n i xs ≡ []
-unfolding planes_of
+unfolding rest planes_of
 rest-none n i xs h = let none : n - i ≡ 0 = omega arith in ap (λ (m : ℕ). planes_of m (drop (6 * i) xs)) none
 
 -- one plane more is passed
@@ -81,13 +82,8 @@ unfolding planes_of
 planes-length zero xs = refl
 planes-length (suc n) xs = ap suc (planes-length n (drop 6 xs))
 
--- the numbers of the planes before an index
-pub room : (index : ℕ) (xs : List Float) → index < length xs / 6 → 6 * index ≤ length xs
-room index xs h = omega arith
-
--- a part that ends at an index holds the planes passed there
-pub passed-lent : (index : ℕ) (xs : List Float) → index < length xs / 6 → planes_in (take (6 * index) xs) ≡ planes_of index xs
-passed-lent index xs h = planes-lent index xs (room index xs h)
+-- a part that ends at an index holds the planes before it
+pub ruleset parts = (planes-lent, planes-length)
 
 -- ---- the list cut at an index
 
@@ -98,7 +94,7 @@ planes-first (suc i) zero xs h = absurd (not-suc-le-zero h)
 planes-first (suc i) (suc n) xs h = ap (λ (ps : List Plane). plane_at xs ∷ ps) (planes-first i n (drop 6 xs) (le_of_suc-le-suc h))
 
 pub planes-last : (i n : ℕ) (xs : List Float) → drop i (planes_of n xs) ≡ rest n i xs
-unfolding planes_of
+unfolding rest planes_of
 planes-last zero n xs = sym (rest_all n xs)
 planes-last (suc i) zero xs = sym (rest-none 0 (suc i) xs zero-le)
 planes-last (suc i) (suc n) xs =
@@ -111,38 +107,36 @@ planes-last (suc i) (suc n) xs =
 -- ---- a loop over lent planes
 
 -- what a loop over the first n planes still has to do at index i
-abbrev pub remaining : {State : Type 0} → (List Plane → Plane → State → State) → ℕ → ℕ → List Float → State → State
+unfoldable pub remaining : {State : Type 0} → (List Plane → Plane → State → State) → ℕ → ℕ → List Float → State → State
 remaining step n i xs state = in_turn step (planes_of i xs) (rest n i xs) state
 
-module _ {State : Type 0} (step : List Plane → Plane → State → State) (n : ℕ) (xs : List Float) where
-  pub begin : (state : State) → remaining step n 0 xs state ≡ in_turn step [] (planes_of n xs) state
-  unfolding planes_of
-  begin state = rw (rest_all n xs)
-
-  one : (i : ℕ) (state : State) → i < n → remaining step n i xs state ≡ remaining step n (i + 1) xs (step (planes_of i xs) (plane_at (drop (6 * i) xs)) state)
-  unfolding in_turn
-  one i state h = rw (rest-step n i xs h, passed-step i xs)
+module _ {State : Type 0} (step : List Plane → Plane → State → State) (n : ℕ) where
+  pub begin : (xs : List Float) (state : State) → remaining step n 0 xs state ≡ in_turn step [] (planes_of n xs) state
+  unfolding remaining planes_of
+  begin xs state = rw (rest_all n xs)
 
   -- a loop that starts at an index has passed the planes before it
-  pub begin-at : (i : ℕ) (state : State) → remaining step n i xs state ≡ in_turn step (take i (planes_of n xs)) (drop i (planes_of n xs)) state
-  unfolding in_turn
-  begin-at i state = go (leb i n) (leb→le i n) (nleb→lt i n)
+  pub begin-at : (i : ℕ) (xs : List Float) (state : State) → remaining step n i xs state ≡ in_turn step (take i (planes_of n xs)) (drop i (planes_of n xs)) state
+  unfolding remaining in_turn
+  begin-at i xs state = go (leb i n) (leb→le i n) (nleb→lt i n)
     where
       go : (b : Bool) → (T b → i ≤ n) → (T (not b) → n < i) → remaining step n i xs state ≡ in_turn step (take i (planes_of n xs)) (drop i (planes_of n xs)) state
       go true below above = rw (planes-first i n xs (below tt), planes-last i n xs)
       go false below above = rw (planes-last i n xs, rest-none n i xs (le_of_lt (above tt)))
 
   -- a turn takes one constraint off what is left, and the answer stays the same
-  pub turn : (i : ℕ) (state next answer : State) → i < n → next ≡ step (planes_of i xs) (plane_at (drop (6 * i) xs)) state
-      → remaining step n i xs state ≡ answer → remaining step n (i + 1) xs next ≡ answer
-  turn i state next answer h is inv = rw is (sym (one i state h) ∙ inv)
+  pub turn : (i : ℕ) (xs : List Float) (state : State) → i < n → remaining step n i xs state ≡ remaining step n (i + 1) xs (step (planes_of i xs) (plane_at (drop (6 * i) xs)) state)
+  unfolding remaining in_turn
+  turn i xs state h = rw (rest-step n i xs h, passed-step i xs)
 
-  -- a state that every constraint keeps is the answer
-  pub leave : (i : ℕ) (state answer : State) → ((passed : List Plane) (constraint : Plane) → step passed constraint state ≡ state)
-      → remaining step n i xs state ≡ answer → state ≡ answer
-  leave i state answer kept inv = sym (stays step state kept (planes_of i xs) (rest n i xs)) ∙ inv
+  -- the state after the last one is the answer
+  pub end : (i : ℕ) (xs : List Float) (state : State) → n ≤ i → remaining step n i xs state ≡ state
+  unfolding remaining in_turn
+  end i xs state h = rw (rest-none n i xs h)
 
-  -- and so is the state after the last one
-  pub end : (i : ℕ) (state answer : State) → n ≤ i → remaining step n i xs state ≡ answer → state ≡ answer
-  unfolding in_turn
-  end i state answer h inv = rw (rest-none n i xs h) at inv
+  -- and so is a state that every constraint keeps
+  pub leave : (i : ℕ) (xs : List Float) (state : State) → ((passed : List Plane) (constraint : Plane) → step passed constraint state ≡ state) → remaining step n i xs state ≡ state
+  unfolding remaining
+  leave i xs state kept = stays step state kept (planes_of i xs) (rest n i xs)
+
+pub ruleset in_turns = (begin-at, turn, end)

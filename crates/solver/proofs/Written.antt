@@ -1,20 +1,17 @@
--- Numbers written to a lent list: a plane's six, and one number everywhere.
-use mathlib.Core.Path.{◌≡◌, refl, sym, ap, ◌∙◌, subst}
+-- A plane written to a lent list: its six numbers in a row.
+use mathlib.Core.Path.{◌≡◌, refl, sym, ap, ◌∙◌}
 use mathlib.Core.Bool.{Bool, true, false}
-use mathlib.Core.List.{List, [], ◌∷◌, ◌++◌, append_assoc}
-use Prim.Native.Nat.{ℕ, zero, suc, ◌+◌, ◌*◌, ◌/◌, ◌≤◌, ◌<◌}
-use native.Mathlib.Nat.{le_of_suc-le-suc, not-suc-le-zero}
+use mathlib.Core.List.{List, ◌++◌, append_assoc}
+use Prim.Native.Nat.{ℕ, suc, ◌+◌, ◌*◌, ◌/◌, ◌≤◌, ◌<◌}
 use native.Mathlib.Numerals.{add-one}
 use native.Mathlib.Omega.{arith}
-use borrow.Author.Tests.{ltb-true, lt-ltb}
+use borrow.Author.Tests.{ltb-true, lt-ltb, le-ltb}
 use lib.Dec.{ltb}
-use lib.ListN.{length, take, drop, set, replicate, length-set}
-use lib.Seq.{take-set-le, drop-set-lt, drop_at, length-take-le, sets, sets-eq}
+use lib.ListN.{length, take, drop, set, length-set}
+use lib.Seq.{take-set-le, drop_at, length-take-le, sets, sets-eq}
 use lib.Ieee.{Float}
 use Rattle.solver.specs.declared.Plane.{Plane}
 use Rattle.solver.specs.Lent.{plane_at, numbers_of_plane, with_plane}
-
--- ---- a plane
 
 -- stored number by number
 unfoldable pub written : List Float → ℕ → Plane → List Float
@@ -34,17 +31,6 @@ written-before n xs at p h =
     let h4 : n ≤ at + 4 = omega arith in
     let h5 : n ≤ at + 5 = omega arith in
     simp take-set-le
-
-pub written_after : (n : ℕ) (xs : List Float) (at : ℕ) (p : Plane) → at + 6 ≤ n → drop n (written xs at p) ≡ drop n xs
-unfolding written
-written_after n xs at p h =
-    let h0 : at < n = omega arith in
-    let h1 : at + 1 < n = omega arith in
-    let h2 : at + 2 < n = omega arith in
-    let h3 : at + 3 < n = omega arith in
-    let h4 : at + 4 < n = omega arith in
-    let h5 : at + 5 < n = omega arith in
-    simp drop-set-lt
 
 -- six stores in a row
 written_is : (xs : List Float) (at : ℕ) (p : Plane) → written xs at p ≡ sets xs at (numbers_of_plane p)
@@ -72,6 +58,10 @@ pub with-room : (xs : List Float) (index : ℕ) (p : Plane) → index < length x
 unfolding with_plane
 with-room xs index p h = rw (lt-ltb index (length xs / 6) h) (sym (written-split xs (6 * index) p (omega arith)))
 
+pub without_room : (xs : List Float) (index : ℕ) (p : Plane) → length xs / 6 ≤ index → with_plane xs index p ≡ xs
+unfolding with_plane
+without_room xs index p h = rw (le-ltb index (length xs / 6) h)
+
 -- room or none, the list stays as long as it was
 pub with-length : (xs : List Float) (index : ℕ) (p : Plane) → length (with_plane xs index p) ≡ length xs
 unfolding with_plane
@@ -81,12 +71,5 @@ with-length xs index p = go (ltb index (length xs / 6)) refl
     go true room = ap length (with-room xs index p (ltb-true index (length xs / 6) room)) ∙ written-length xs (6 * index) p
     go false none = rw none
 
--- ---- a list filled from the front
-
-fill_suc : (n : ℕ) (v : Float) (d : List Float) → n < length d → set (replicate n v ++ drop n d) n v ≡ replicate (suc n) v ++ drop (suc n) d
-fill_suc n v [] l = absurd (not-suc-le-zero l)
-fill_suc zero v (x ∷ d) l = refl
-fill_suc (suc n) v (x ∷ d) l = ap (λ (t : List Float). v ∷ t) (fill_suc n v d (le_of_suc-le-suc l))
-
-pub fill_more : (n : ℕ) (v : Float) (d : List Float) → n < length d → set (replicate n v ++ drop n d) n v ≡ replicate (n + 1) v ++ drop (n + 1) d
-fill_more n v d l = subst (λ (k : ℕ). set (replicate n v ++ drop n d) n v ≡ replicate k v ++ drop k d) (sym (add-one n)) (fill_suc n v d l)
+-- what six stores leave, and none
+pub ruleset stores = (with-room, without_room)

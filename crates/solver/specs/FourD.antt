@@ -1,5 +1,5 @@
 -- `solve_linear_program_4d`.
-use Rattle.std.specs.Prelude.{◌*◌, ◌/◌, cond, List, [], ◌∷◌, ◌++◌, length, take, drop, replicate, Float}
+use Rattle.std.specs.Prelude.{◌*◌, ◌/◌, cond, List, [], ◌∷◌, ◌++◌, Option, Some, None, length, take, drop, replicate, Float}
 use Rattle.std.specs.Float.Ieee.{neg}
 use Rattle.vectors.specs.declared.Vec3.{Vec3}
 use Rattle.vectors.specs.Number.{◌⊘◌, ◌≤ᶠ◌, ◌>ᶠ◌, zero, of_word, rvo_epsilon}
@@ -9,8 +9,6 @@ use Rattle.solver.specs.declared.Optimum.TheVariants.{Direction}
 use Rattle.solver.specs.declared.Failure.{Failure}
 use Rattle.solver.specs.declared.Outcome.{Outcome}
 use Rattle.solver.specs.declared.Outcome.TheVariants.{Feasible, Infeasible, BadClamp}
-use Rattle.solver.specs.declared.four_d.Turned.{Turned}
-use Rattle.solver.specs.declared.four_d.Turned.TheVariants.{Kept, LeftOut}
 use Rattle.solver.specs.declared.four_d.Relaxed.{Relaxed}
 use Rattle.solver.specs.Plane.{signed_distance, in_turn}
 use Rattle.solver.specs.Lent.{per_plane, scratch_per_plane, scratch_for}
@@ -23,17 +21,17 @@ unfoldable pub turned_plane : Plane → Plane → Vec3 → Plane
 turned_plane constraint previous point = record { point = point; normal = normalize (previous.normal -ᵥ constraint.normal) }
 
 -- the half-space in which `previous` is violated no more than `constraint`: of two parallel planes that face the same way there is none
-unfoldable pub turn_by : Plane → Plane → Turned
+unfoldable pub turn_by : Plane → Plane → Option Plane
 turn_by constraint previous =
     let across = cross previous.normal constraint.normal in
     let line_normal = cross across constraint.normal in
     cond (dot across across ≤ᶠ rvo_epsilon)
-    (cond (dot constraint.normal previous.normal >ᶠ zero) LeftOut (Kept (turned_plane constraint previous ((constraint.point +ᵥ previous.point) *ᵥ half))))
-    (Kept (turned_plane constraint previous (constraint.point -ᵥ line_normal *ᵥ (signed_distance previous constraint.point ⊘ dot line_normal previous.normal))))
+    (cond (dot constraint.normal previous.normal >ᶠ zero) None (Some (turned_plane constraint previous ((constraint.point +ᵥ previous.point) *ᵥ half))))
+    (Some (turned_plane constraint previous (constraint.point -ᵥ line_normal *ᵥ (signed_distance previous constraint.point ⊘ dot line_normal previous.normal))))
 
-unfoldable pub kept : Turned → List Plane → List Plane
-kept (Kept plane) planes = plane ∷ planes
-kept LeftOut planes = planes
+unfoldable pub kept : Option Plane → List Plane → List Plane
+kept (Some plane) planes = plane ∷ planes
+kept None planes = planes
 
 -- all earlier planes, turned
 unfoldable pub turned_all : Plane → List Plane → List Plane

@@ -1,44 +1,46 @@
 // Document 01, module 3: `solve_linear_program_along_line`. The definitions are in
 // `specs/AlongLine.antt`.
-ghost use Rattle.std.specs.Prelude.{◌≡◌};
+ghost use Rattle.std.specs.Prelude.{◌≡◌, Some};
 ghost use Rattle.solver.specs.Lent.{planes_in};
-ghost use Rattle.solver.specs.AlongLine.{along_line, cut_by, cut_all, open_or, point_on, best_on};
+ghost use Rattle.solver.specs.AlongLine.{along_line, cut_by, cut_all, open_or, point_on, best_on, between};
 
 use super::lent::plane_at;
 use super::{Line, OnLine, Optimum, PLANE_NUMBERS, Plane};
+use vectors::Vec3;
 use vectors::number::{RVO_EPSILON, clamp, larger_of, smaller_of};
 use vectors::root::root;
-use vectors::{Clamped, Vec3};
 
-// What is left of a line: the times from `left` to `right`, or nothing.
-#[derive(Clone, Copy)]
-pub enum Cut {
-    Open { left: f32, right: f32 },
-    Shut,
+// The times on a line from `left` to `right`.
+#[derive(Debug, Clone, Copy, PartialEq)]
+pub struct Times {
+    pub left: f32,
+    pub right: f32,
 }
 
 // The times between two bounds, if there are any.
-fn open_or(left: f32, right: f32) -> Cut
+#[tactic(auto, unfolding(crate::specs::AlongLine::open_or))]
+fn open_or(left: f32, right: f32) -> Option<Times>
     ensures { result ≡ open_or left right }
 {
     if left > right {
-        Cut::Shut
+        None
     } else {
-        Cut::Open { left, right }
+        Some(Times { left, right })
     }
 }
 
 // What one constraint leaves of the times from `left` to `right`.
-fn cut_by(line: Line, constraint: Plane, left: f32, right: f32) -> Cut
-    ensures { result ≡ cut_by line constraint (Cut.Open left right) }
+#[tactic(auto, unfolding(crate::specs::AlongLine::cut_by))]
+fn cut_by(line: Line, constraint: Plane, left: f32, right: f32) -> Option<Times>
+    ensures { result ≡ cut_by line constraint (between left right) }
 {
     let direction_dot = line.direction.dot(constraint.normal);
     let numerator = constraint.signed_distance(line.point);
     if direction_dot * direction_dot <= RVO_EPSILON {
         if numerator < -RVO_EPSILON {
-            Cut::Shut
+            None
         } else {
-            Cut::Open { left, right }
+            Some(Times { left, right })
         }
     } else {
         let t = -numerator / direction_dot;
@@ -51,30 +53,23 @@ fn cut_by(line: Line, constraint: Plane, left: f32, right: f32) -> Cut
 }
 
 // What all constraints leave of them.
-fn cut_all(line: Line, planes: &[f32], start: f32, end: f32) -> Cut
-    ensures { result ≡ cut_all line (planes_in planes.now) (Cut.Open start end) }
+// The bounds are two variables: one `Times` is packed into an integer at every turn, which is slower.
+#[tactic(auto, using(crate::proofs::Stopped::in_turn_on_line), unfolding(crate::specs::AlongLine::cut_all))]
+fn cut_all(line: Line, planes: &[f32], start: f32, end: f32) -> Option<Times>
+    ensures { result ≡ cut_all line (planes_in planes.now) (between start end) }
 {
-    let count = planes.len() / PLANE_NUMBERS;
     let mut left = start;
     let mut right = end;
-    let mut index = 0;
-    while index < count {
-        let cut = cut_by(line, plane_at(planes, index), left, right);
-        let Cut::Open {
-            left: next_left,
-            right: next_right,
-        } = cut
-        else {
-            return Cut::Shut;
-        };
-        left = next_left;
-        right = next_right;
-        index += 1;
+    for index in 0..planes.len() / PLANE_NUMBERS {
+        let times = cut_by(line, plane_at(planes, index), left, right)?;
+        left = times.left;
+        right = times.right;
     }
-    Cut::Open { left, right }
+    Some(Times { left, right })
 }
 
 // The point of a line at a time.
+#[tactic(auto, unfolding(crate::specs::AlongLine::point_on))]
 fn point_on(line: Line, t: f32) -> Vec3
     ensures { result ≡ point_on line t }
 {
@@ -82,24 +77,25 @@ fn point_on(line: Line, t: f32) -> Vec3
 }
 
 // The best value between two times.
-fn best_on(line: Line, optimum: Optimum, left: f32, right: f32) -> OnLine
-    ensures { result ≡ best_on line optimum (Cut.Open left right) }
+#[tactic(auto, unfolding(crate::specs::AlongLine::best_on, crate::specs::AlongLine::at_clamped))]
+fn best_on(line: Line, optimum: Optimum, times: Times) -> OnLine
+    ensures { result ≡ best_on line optimum (Some times) }
 {
     match optimum {
         Optimum::Direction { x, y, z } => {
             let direction = Vec3 { x, y, z };
             if direction.dot(line.direction) > 0.0 {
-                OnLine::Value(point_on(line, right))
+                OnLine::Value(point_on(line, times.right))
             } else {
-                OnLine::Value(point_on(line, left))
+                OnLine::Value(point_on(line, times.left))
             }
         }
         Optimum::Point { x, y, z } => {
             let point = Vec3 { x, y, z };
             let t = line.direction.dot(point.sub(line.point));
-            match clamp(t, left, right) {
-                Clamped::Value(time) => OnLine::Value(point_on(line, time)),
-                Clamped::BadBounds => OnLine::BadClamp,
+            match clamp(t, times.left, times.right) {
+                Some(time) => OnLine::Value(point_on(line, time)),
+                None => OnLine::BadClamp,
             }
         }
     }
@@ -107,6 +103,7 @@ fn best_on(line: Line, optimum: Optimum, left: f32, right: f32) -> OnLine
 
 // The best value on a line, within the sphere of `radius` and on the valid side of every plane of
 // `planes`, lent as numbers.
+#[tactic(auto, unfolding(crate::specs::AlongLine::along_line, crate::specs::AlongLine::best_on))]
 pub fn along_line(line: Line, radius: f32, planes: &[f32], optimum: Optimum) -> OnLine
     ensures { result ≡ along_line line radius (planes_in planes.now) optimum }
 {
@@ -117,7 +114,7 @@ pub fn along_line(line: Line, radius: f32, planes: &[f32], optimum: Optimum) -> 
     }
     let half = root(discriminant);
     match cut_all(line, planes, -line_dot - half, -line_dot + half) {
-        Cut::Open { left, right } => best_on(line, optimum, left, right),
-        Cut::Shut => OnLine::Infeasible,
+        Some(times) => best_on(line, optimum, times),
+        None => OnLine::Infeasible,
     }
 }

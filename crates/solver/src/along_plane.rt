@@ -1,7 +1,7 @@
 // Document 01, module 4: `solve_linear_program_along_plane`. The definitions are in
 // `specs/AlongPlane.antt`.
-ghost use Rattle.std.specs.Prelude.{◌≡◌, ◌*◌, ◌/◌, ◌<◌, length, drop};
-ghost use Rattle.solver.specs.Lent.{per_plane, plane_at, planes_of, planes_in};
+ghost use Rattle.std.specs.Prelude.{◌≡◌};
+ghost use Rattle.solver.specs.Lent.{planes_in};
 ghost use Rattle.solver.specs.AlongPlane.{along_plane, start_on, on_circle, line_on, by_constraint};
 
 use super::along_line::along_line;
@@ -12,6 +12,7 @@ use vectors::number::RVO_EPSILON;
 use vectors::root::root;
 
 // From `center` along `way`, as far as the circle of the squared radius reaches.
+#[tactic(auto, unfolding(crate::specs::AlongPlane::on_circle))]
 fn on_circle(center: Vec3, squared_radius: f32, way: Vec3, squared_length: f32) -> Vec3
     ensures { result ≡ on_circle center squared_radius way squared_length }
 {
@@ -19,6 +20,7 @@ fn on_circle(center: Vec3, squared_radius: f32, way: Vec3, squared_length: f32) 
 }
 
 // The best value on the plane within the sphere, before any constraint.
+#[tactic(auto, unfolding(crate::specs::AlongPlane::start_on, crate::specs::AlongPlane::start_in_circle))]
 fn start_on(plane: Plane, distance: f32, radius_squared: f32, optimum: Optimum) -> Vec3
     ensures { result ≡ start_on plane distance radius_squared optimum }
 {
@@ -50,6 +52,7 @@ fn start_on(plane: Plane, distance: f32, radius_squared: f32, optimum: Optimum) 
 
 // The line in which a plane meets a constraint whose normals' cross product is
 // `across`.
+#[tactic(auto, unfolding(crate::specs::AlongPlane::line_on))]
 fn line_on(plane: Plane, constraint: Plane, across: Vec3) -> Line
     ensures { result ≡ line_on plane constraint across }
 {
@@ -62,19 +65,18 @@ fn line_on(plane: Plane, constraint: Plane, across: Vec3) -> Line
     }
 }
 
-// The best value once the constraint at `index` has been met too; the planes before it are passed.
+// The best value once one constraint more has been met; those before it are passed.
+#[tactic(auto, unfolding(crate::specs::AlongPlane::by_constraint, crate::specs::AlongPlane::by_line, crate::specs::AlongPlane::from_line))]
 fn by_constraint(
     plane: Plane,
     radius: f32,
-    planes: &[f32],
-    index: usize,
+    passed: &[f32],
+    constraint: Plane,
     best: Vec3,
     optimum: Optimum,
 ) -> OnPlane
-    requires { index < length planes.now / per_plane }
-    ensures { result ≡ by_constraint plane radius optimum (planes_of index planes.now) (plane_at (drop (per_plane * index) planes.now)) (OnPlane.Value best) }
+    ensures { result ≡ by_constraint plane radius optimum (planes_in passed.now) constraint (OnPlane.Value best) }
 {
-    let constraint = plane_at(planes, index);
     if constraint.signed_distance(best) >= 0.0 {
         return OnPlane::Value(best);
     }
@@ -82,14 +84,8 @@ fn by_constraint(
     if across.dot(across) <= RVO_EPSILON {
         return OnPlane::Infeasible;
     }
-    let end = PLANE_NUMBERS * index;
-    let answer = along_line(
-        line_on(plane, constraint, across),
-        radius,
-        &planes[..end],
-        optimum,
-    );
-    // A line that fails, fails the plane.
+    let answer = along_line(line_on(plane, constraint, across), radius, passed, optimum);
+    // A line that fails, fails the plane: its answer is taken apart at once (docs/DEFINITION.md, 4).
     if let OnLine::BadClamp = answer {
         return OnPlane::BadClamp;
     }
@@ -101,6 +97,7 @@ fn by_constraint(
 
 // The best value on a plane, within the sphere of `radius` and on the valid side of every plane of
 // `planes`, lent as numbers.
+#[tactic(auto, using(crate::proofs::Stopped::in_turn_on_plane), unfolding(crate::specs::AlongPlane::along_plane))]
 pub fn along_plane(plane: Plane, radius: f32, planes: &[f32], optimum: Optimum) -> OnPlane
     ensures { result ≡ along_plane plane radius (planes_in planes.now) optimum }
 {
@@ -110,15 +107,14 @@ pub fn along_plane(plane: Plane, radius: f32, planes: &[f32], optimum: Optimum) 
         return OnPlane::Infeasible;
     }
     let mut best = start_on(plane, distance, radius_squared, optimum);
-    let count = planes.len() / PLANE_NUMBERS;
-    let mut index = 0;
-    while index < count {
-        let answer = by_constraint(plane, radius, planes, index, best, optimum);
+    for index in 0..planes.len() / PLANE_NUMBERS {
+        let passed = &planes[..PLANE_NUMBERS * index];
+        let constraint = plane_at(planes, index);
+        let answer = by_constraint(plane, radius, passed, constraint, best, optimum);
         let OnPlane::Value(value) = answer else {
             return answer;
         };
         best = value;
-        index += 1;
     }
     OnPlane::Value(best)
 }

@@ -7,6 +7,7 @@ use vectors::Vec3;
 
 impl Plane {
     // How far p lies on the plane's valid side; below 0 on the other.
+    #[tactic(auto, unfolding(crate::specs::Plane::signed_distance))]
     pub fn signed_distance(self, p: Vec3) -> f32
         ensures { result ≡ signed_distance self p }
     {

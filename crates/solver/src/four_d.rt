@@ -2,10 +2,9 @@
 //
 // The Rust collects the turned planes in a `Vec`. Here they are written to the second half of the
 // lent scratch, whose first half holds the planes, and are solved there.
-ghost use Rattle.std.specs.Prelude.{◌≡◌, ◌*◌, ◌/◌, ◌≤◌, length, drop};
-ghost use Rattle.solver.specs.Lent.{per_plane, scratch_per_plane, plane_at, planes_of};
-ghost use Rattle.solver.specs.FourD.{turned_plane, turn_by, relax_by, four_d, half_cleared};
-ghost use Rattle.solver.specs.parts.FourD.{Within, Keeps, TurnedAll, TurnedOne};
+ghost use Rattle.std.specs.Prelude.{◌≡◌, ◌*◌, ◌/◌, ◌≤◌, length};
+ghost use Rattle.solver.specs.Lent.{per_plane, scratch_per_plane, planes_of, planes_in};
+ghost use Rattle.solver.specs.FourD.{turned_plane, turn_by, turned_all, relax_by, four_d, half_cleared};
 
 use super::lent::{clear, plane_at, write_plane};
 use super::three_d::three_d;
@@ -13,21 +12,15 @@ use super::{Failure, Optimum, Outcome, PLANE_NUMBERS, Plane, SCRATCH_NUMBERS};
 use vectors::Vec3;
 use vectors::number::RVO_EPSILON;
 
-// What turning a previous plane gives: a plane, or nothing where the two face the same way.
-#[derive(Clone, Copy)]
-pub enum Turned {
-    Kept(Plane),
-    LeftOut,
-}
-
 // The least penetrating value so far, and how far it lies behind the plane that asked for it.
-#[derive(Clone, Copy)]
+#[derive(Debug, Clone, Copy, PartialEq)]
 pub struct Relaxed {
     pub value: Vec3,
     pub penetration: f32,
 }
 
 // The plane through `point` on which both constraints are violated the same.
+#[tactic(auto, unfolding(crate::specs::FourD::turned_plane))]
 fn turned_plane(constraint: Plane, previous: Plane, point: Vec3) -> Plane
     ensures { result ≡ turned_plane constraint previous point }
 {
@@ -37,83 +30,70 @@ fn turned_plane(constraint: Plane, previous: Plane, point: Vec3) -> Plane
     }
 }
 
-// The half-space in which `previous` is violated no more than `constraint`.
-fn turn_by(constraint: Plane, previous: Plane) -> Turned
+// The half-space in which `previous` is violated no more than `constraint`. Of two planes that face the
+// same way there is none.
+#[tactic(auto, unfolding(crate::specs::FourD::turn_by))]
+fn turn_by(constraint: Plane, previous: Plane) -> Option<Plane>
     ensures { result ≡ turn_by constraint previous }
 {
     let across = previous.normal.cross(constraint.normal);
     if across.dot(across) <= RVO_EPSILON {
         if constraint.normal.dot(previous.normal) > 0.0 {
-            Turned::LeftOut
+            None
         } else {
             let middle = constraint.point.add(previous.point).mul(0.5);
-            Turned::Kept(turned_plane(constraint, previous, middle))
+            Some(turned_plane(constraint, previous, middle))
         }
     } else {
         let line_normal = across.cross(constraint.normal);
         let along = previous.signed_distance(constraint.point) / line_normal.dot(previous.normal);
         let point = constraint.point.sub(line_normal.mul(along));
-        Turned::Kept(turned_plane(constraint, previous, point))
+        Some(turned_plane(constraint, previous, point))
     }
 }
 
-// Turns the plane at `index`, and appends it to the `kept` ones in the second half, unless it is left
-// out. Answers how many are there now.
-fn turn_one(
-    scratch: &mut [f32],
-    count: usize,
-    constraint: Plane,
-    index: usize,
-    kept: usize,
-) -> usize
-    requires { Within count index scratch.old × (kept ≤ index) }
-    ensures { TurnedOne count constraint index kept scratch.old scratch.new result }
+// Turns all planes passed, and writes those that are not left out to `turned`, one after another.
+// Answers how many stand there: the buffer is lent, as long as the caller has it, so no ArrayVec holds it.
+#[tactic(auto, using(std::proofs::lemmas::Grind::common_steps, crate::proofs::four_d::Scratch::turned), unfolding(crate::specs::FourD::kept, crate::specs::Lent::planes_of))]
+fn turn_all(passed: &[f32], turned: &mut [f32], constraint: Plane) -> usize
+    requires { length passed.now ≤ length turned.old }
+    ensures few { per_plane * result ≤ length turned.new }
+    ensures turned { planes_of result turned.new ≡ turned_all constraint (planes_in passed.now) }
 {
-    let previous = plane_at(scratch, index);
-    match turn_by(constraint, previous) {
-        Turned::Kept(plane) => {
-            write_plane(scratch, count + kept, plane);
-            kept + 1
-        }
-        Turned::LeftOut => kept,
-    }
-}
-
-// Turns all planes before `index` about the plane there. Answers how many stand in the second half.
-fn turn_all(scratch: &mut [f32], count: usize, index: usize) -> usize
-    requires { Within count index scratch.old }
-    ensures { TurnedAll count index scratch.old scratch.new result }
-{
-    let constraint = plane_at(scratch, index);
     let mut kept = 0;
-    let mut previous = 0;
-    while previous < index {
-        kept = turn_one(scratch, count, constraint, previous, kept);
-        previous += 1;
+    for index in 0..passed.len() / PLANE_NUMBERS {
+        if let Some(plane) = turn_by(constraint, plane_at(passed, index)) {
+            write_plane(turned, kept, plane);
+            kept += 1;
+        }
     }
     kept
 }
 
-// The value that the plane at `index` makes of the one so far.
-fn relax_by(scratch: &mut [f32], count: usize, radius: f32, index: usize, state: Relaxed) -> Relaxed
-    requires { Within count index scratch.old }
-    ensures value { result ≡ relax_by radius (planes_of index scratch.old) (plane_at (drop (per_plane * index) scratch.old)) state }
-    ensures kept { Keeps count scratch.old scratch.new }
+// The value that one plane more makes of the one so far; those before it are passed, and `turned` is room
+// to work in.
+#[tactic(auto, using(crate::proofs::Planes::parts), unfolding(crate::specs::FourD::relax_by, crate::specs::FourD::relaxed_to))]
+fn relax_by(
+    passed: &[f32],
+    turned: &mut [f32],
+    radius: f32,
+    constraint: Plane,
+    state: Relaxed,
+) -> Relaxed
+    requires { length passed.now ≤ length turned.old }
+    ensures { result ≡ relax_by radius (planes_in passed.now) constraint state }
 {
-    let constraint = plane_at(scratch, index);
     if -constraint.signed_distance(state.value) <= state.penetration {
         return state;
     }
-    let kept = turn_all(scratch, count, index);
-    let start = PLANE_NUMBERS * count;
-    let end = start + PLANE_NUMBERS * kept;
+    let kept = turn_all(passed, turned, constraint);
     let normal = constraint.normal;
     let best = Optimum::Direction {
         x: normal.x,
         y: normal.y,
         z: normal.z,
     };
-    match three_d(&scratch[start..end], radius, best) {
+    match three_d(&turned[..PLANE_NUMBERS * kept], radius, best) {
         Outcome::Feasible(value) => Relaxed {
             value,
             penetration: -constraint.signed_distance(value),
@@ -126,23 +106,23 @@ fn relax_by(scratch: &mut [f32], count: usize, radius: f32, index: usize, state:
 // The least penetrating value within the sphere of `radius`, from the plane at which the 3D program
 // failed. `scratch` is SCRATCH_NUMBERS for each plane: in its first half the planes, lent as numbers; the
 // second half is worked in, and is +0 at the end.
+#[tactic(auto, using(crate::proofs::Planes::parts, crate::proofs::Planes::in_turns, crate::proofs::four_d::Scratch::second_cleared), unfolding(crate::specs::FourD::four_d, crate::specs::FourD::half_cleared))]
 pub fn four_d(scratch: &mut [f32], radius: f32, failure: Failure) -> Vec3
     ensures value { result ≡ four_d (planes_of (length scratch.old / scratch_per_plane) scratch.old) radius failure }
     ensures scratch { scratch.new ≡ half_cleared scratch.old }
 {
-    let count = scratch.len() / SCRATCH_NUMBERS;
-    let partial = failure.value;
+    let half = PLANE_NUMBERS * (scratch.len() / SCRATCH_NUMBERS);
+    let (front, rest) = scratch.split_at_mut(half);
+    let planes: &[f32] = front;
+    let turned = &mut rest[..half];
     let mut state = Relaxed {
-        value: partial,
+        value: failure.value,
         penetration: 0.0,
     };
-    let mut index = failure.index;
-    while index < count {
-        state = relax_by(scratch, count, radius, index, state);
-        index += 1;
+    for index in failure.index..planes.len() / PLANE_NUMBERS {
+        let passed = &planes[..PLANE_NUMBERS * index];
+        state = relax_by(passed, turned, radius, plane_at(planes, index), state);
     }
-    let start = PLANE_NUMBERS * count;
-    let end = SCRATCH_NUMBERS * count;
-    clear(&mut scratch[start..end]);
+    clear(turned);
     state.value
 }

@@ -1,4 +1,5 @@
 // Planes lent as numbers, six to each: point, then normal. The definitions are in `specs/Lent.antt`.
+// Document 01 lends numbers with an index, so a plane is read and written number by number.
 ghost use Rattle.std.specs.Prelude.{◌≡◌, ◌*◌, ◌/◌, ◌<◌, length, drop, replicate};
 ghost use Rattle.vectors.specs.Number.{zero};
 ghost use Rattle.solver.specs.Lent.{per_plane, plane_at, with_plane};
@@ -7,6 +8,7 @@ use super::{PLANE_NUMBERS, Plane};
 use vectors::Vec3;
 
 // The plane at `index` among planes lent as numbers.
+#[tactic(auto, unfolding(crate::specs::Lent::plane_at))]
 pub(crate) fn plane_at(planes: &[f32], index: usize) -> Plane
     requires { index < length planes.now / per_plane }
     ensures { result ≡ plane_at (drop (per_plane * index) planes.now) }
@@ -28,6 +30,7 @@ pub(crate) fn plane_at(planes: &[f32], index: usize) -> Plane
 
 // Writes a plane as its six numbers, at `index` among planes lent so. Where there is no room for it,
 // nothing is written.
+#[tactic(auto, using(crate::proofs::Written::stores), unfolding(crate::proofs::Written::written))]
 pub fn write_plane(planes: &mut [f32], index: usize, plane: Plane)
     ensures { planes.new ≡ with_plane planes.old index plane }
 {
@@ -46,9 +49,5 @@ pub fn write_plane(planes: &mut [f32], index: usize, plane: Plane)
 pub fn clear(numbers: &mut [f32])
     ensures { numbers.new ≡ replicate (length numbers.old) zero }
 {
-    let mut at = 0;
-    while at < numbers.len() {
-        numbers[at] = 0.0;
-        at += 1;
-    }
+    numbers.fill(0.0);
 }

@@ -12,24 +12,25 @@ use super::{Optimum, Outcome, PLANE_NUMBERS, SCRATCH_NUMBERS, Solution};
 use vectors::Vec3;
 
 // The value that an outcome of 3D comes to. The second half of `scratch` is +0 at the end.
+#[tactic(auto, using(crate::proofs::four_d::Scratch::second_cleared), unfolding(crate::specs::Solve::value_of, crate::specs::FourD::half_cleared))]
 fn value_of(scratch: &mut [f32], radius: f32, outcome: Outcome) -> Vec3
     ensures value { result ≡ value_of (planes_of (length scratch.old / scratch_per_plane) scratch.old) radius outcome }
     ensures scratch { scratch.new ≡ half_cleared scratch.old }
 {
-    if let Outcome::Infeasible(failure) = outcome {
-        return four_d(scratch, radius, failure);
-    }
-    let count = scratch.len() / SCRATCH_NUMBERS;
-    clear(&mut scratch[PLANE_NUMBERS * count..SCRATCH_NUMBERS * count]);
-    match outcome {
+    let value = match outcome {
         Outcome::Feasible(value) => value,
-        _ => Vec3::zero(),
-    }
+        Outcome::Infeasible(failure) => return four_d(scratch, radius, failure),
+        Outcome::BadClamp(_) => Vec3::zero(),
+    };
+    let half = PLANE_NUMBERS * (scratch.len() / SCRATCH_NUMBERS);
+    clear(&mut scratch[half..half + half]);
+    value
 }
 
 // The value nearest to `preferred` within the sphere of `radius` and on the valid side of the planes,
 // or the least penetrating one. `scratch` is SCRATCH_NUMBERS for each plane: in its first half the
 // planes, lent as numbers; the second half is +0 at the end.
+#[tactic(auto, using(crate::proofs::Planes::parts), unfolding(crate::specs::Solve::solve))]
 pub fn solve(scratch: &mut [f32], radius: f32, preferred: Vec3) -> Solution
     ensures value { result ≡ solve (planes_of (length scratch.old / scratch_per_plane) scratch.old) radius preferred }
     ensures scratch { scratch.new ≡ half_cleared scratch.old }

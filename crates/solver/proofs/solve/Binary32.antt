@@ -2,10 +2,9 @@
 -- On a line and on a plane it is one whatever the optimum; in the sphere, where the start is.
 use mathlib.Core.List.{List, []}
 use Prim.Native.Nat.{ℕ}
+use Rattle.std.specs.Prelude.{Option, Some, None}
 use lib.ListN.{length, take, drop}
 use lib.Ieee.{Float, neg}
-use Rattle.vectors.specs.declared.Clamped.{Clamped}
-use Rattle.vectors.specs.declared.Clamped.TheVariants as clamp
 use Rattle.vectors.specs.declared.Vec3.{Vec3}
 use Rattle.vectors.specs.Number.{◌⊕◌, ◌⊖◌, ◌⊗◌, ◌<ᶠ◌, ◌≤ᶠ◌, ◌>ᶠ◌, ◌≥ᶠ◌, zero, rvo_epsilon}
 use Rattle.vectors.specs.Vec3.{◌-ᵥ◌, ◌*ᵥ◌, dot, cross, length_squared, IsBinary32}
@@ -18,8 +17,7 @@ use Rattle.solver.specs.declared.OnLine.{OnLine}
 use Rattle.solver.specs.declared.OnLine.TheVariants as onLine
 use Rattle.solver.specs.declared.OnPlane.{OnPlane}
 use Rattle.solver.specs.declared.OnPlane.TheVariants as onPlane
-use Rattle.solver.specs.declared.along_line.Cut.{Cut}
-use Rattle.solver.specs.declared.along_line.Cut.TheVariants.{Open, Shut}
+use Rattle.solver.specs.declared.along_line.Times.{Times}
 use Rattle.solver.specs.declared.Failure.{Failure}
 use Rattle.solver.specs.declared.Outcome.{Outcome}
 use Rattle.solver.specs.declared.Outcome.TheVariants as outcome
@@ -56,16 +54,16 @@ point-is : (line : Line) (t : Float) → IsBinary32 (point_on line t)
 unfolding point_on
 point-is line t = sum_is _ _
 
-clamped-is : (line : Line) (c : Clamped) → LineIs (at_clamped line c)
+clamped-is : (line : Line) (c : Option Float) → LineIs (at_clamped line c)
 unfolding at_clamped
-clamped-is line (clamp.Value t) = point-is line t
-clamped-is line clamp.BadBounds = tt
+clamped-is line (Some t) = point-is line t
+clamped-is line None = tt
 
-best-is : (line : Line) (optimum : Optimum) (cut : Cut) → LineIs (best_on line optimum cut)
+best-is : (line : Line) (optimum : Optimum) (times : Option Times) → LineIs (best_on line optimum times)
 unfolding best_on
-best-is line optimum Shut = tt
-best-is line (Direction x y z) (Open left right) = point-is line _
-best-is line (Point x y z) (Open left right) = clamped-is line _
+best-is line optimum None = tt
+best-is line (Direction x y z) (Some times) = point-is line _
+best-is line (Point x y z) (Some times) = clamped-is line _
 
 line-is : (line : Line) (radius : Float) (constraints : List Plane) (optimum : Optimum) → LineIs (along_line line radius constraints optimum)
 unfolding along_line
