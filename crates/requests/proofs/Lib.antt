@@ -2,3 +2,4 @@
 pub mod ReplyLaws
 pub mod AgentNumbers
 pub mod Ranges
+pub mod BadSteps

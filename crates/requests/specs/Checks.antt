@@ -1,13 +1,11 @@
 -- The velocity call's checks 1, 17, and 2 to 5, of the documents' table of numbered answers.
-use Rattle.std.specs.Prelude.{ℕ, ◌-◌, ◌%◌, Bool, false, not, ◌||◌, cond, List, ◌++◌, leb, ltb, eqb, length, Float}
+use Rattle.std.specs.Prelude.{ℕ, ◌-◌, ◌%◌, Bool, false, not, ◌||◌, cond, List, ◌++◌, leb, ltb, eqb, length, Float, Option}
 use Rattle.vectors.specs.declared.Vec3.{Vec3}
 use Rattle.vectors.specs.Number.{◌<ᶠ◌, ◌>ᶠ◌, zero, of_word, finite}
 use Rattle.vectors.specs.Vec3.{dot}
-use Rattle.refusals.specs.declared.Found.{Found}
 use Rattle.refusals.specs.declared.Refusal.TheVariants.{RaggedNeighbours, TooManyNeighbours, ShortScratch, NotFinite, OutOfRange, BadFallback}
-use Rattle.refusals.specs.declared.Verdict.{Verdict}
 use Rattle.refusals.specs.Conditions.{first_bad}
-use Rattle.refusals.specs.Verdict.{◌⊳◌, refused_if, refused_at}
+use Rattle.refusals.specs.Verdict.{◌⊳◌, refused_if, refused_at, Verdict}
 use Rattle.solver.specs.Lent.{scratch_for}
 use Rattle.requests.specs.declared.Request.{Request}
 use Rattle.requests.specs.declared.Kind.{Kind}
@@ -48,7 +46,7 @@ abbrev pub call_numbers : Request → List Float → List Float
 call_numbers request neighbours = request_numbers request ++ neighbours
 
 -- the lowest place of a bad one
-unfoldable pub first_of : Asked → Request → List Float → Found
+unfoldable pub first_of : Asked → Request → List Float → Option ℕ
 first_of asked request neighbours = first_bad (bad_number asked) 0 (call_numbers request neighbours)
 
 -- ---- the checks

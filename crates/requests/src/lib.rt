@@ -7,7 +7,7 @@ pub mod checks;
 pub mod replies;
 pub mod requests;
 
-use refusals::{Found, Refusal};
+use refusals::Refusal;
 use vectors::Vec3;
 
 // At most so many neighbours.
@@ -39,7 +39,7 @@ pub const HORIZON_PLACE: usize = 13;
 
 pub const FALLBACK_PLACE: usize = 14;
 
-#[derive(Clone, Copy)]
+#[derive(Debug, Clone, Copy, PartialEq)]
 pub struct Agent {
     pub position: Vec3,
     pub velocity: Vec3,
@@ -47,7 +47,7 @@ pub struct Agent {
     pub responsibility: f32,
 }
 
-#[derive(Clone, Copy)]
+#[derive(Debug, Clone, Copy, PartialEq)]
 pub struct Request {
     pub agent: Agent,
     pub preferred: Vec3,
@@ -58,15 +58,16 @@ pub struct Request {
 }
 
 // What a number at a place may be.
-#[derive(Clone, Copy)]
+#[derive(Debug, Clone, Copy, PartialEq, Eq)]
 pub enum Kind {
     Any,
     NotNegative,
     Positive,
 }
 
-// What is asked of every number: to be finite, or to be in its range.
-#[derive(Clone, Copy)]
+// What is asked of every number: to be finite, or to be in its range. A value and no closure, since the definitions take
+// it too (`bad_number`), and each of the two has a look at all numbers beside its test of one.
+#[derive(Debug, Clone, Copy, PartialEq, Eq)]
 pub enum Asked {
     Finite,
     InRange,
@@ -74,16 +75,12 @@ pub enum Asked {
 
 // The velocity to take, the plane from which it is relaxed, if it is, and the first neighbour that is
 // unseen, if one is.
-#[derive(Clone, Copy)]
+#[derive(Debug, Clone, Copy, PartialEq)]
 pub struct Course {
     pub velocity: Vec3,
-    pub relaxed: Found,
-    pub unseen: Found,
+    pub relaxed: Option<usize>,
+    pub unseen: Option<usize>,
 }
 
 // What a velocity call answers.
-#[derive(Clone, Copy)]
-pub enum Reply {
-    Answered(Course),
-    Refused(Refusal),
-}
+pub type Reply = Result<Course, Refusal>;

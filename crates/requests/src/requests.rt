@@ -5,7 +5,8 @@ ghost use Rattle.requests.specs.Request.{request_numbers};
 use super::{REQUEST_NUMBERS, Request};
 
 impl Request {
-    // Its numbers, each at its place.
+    // Its numbers, each at its place. No From: what reads them back, `read_request`, is of planes.
+    #[tactic(auto, unfolding(crate::specs::Request::request_numbers))]
     pub(crate) fn numbers(self) -> [f32; REQUEST_NUMBERS]
         ensures { result ≡ request_numbers self }
     {

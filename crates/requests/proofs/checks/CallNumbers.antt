@@ -12,8 +12,6 @@ use Rattle.vectors.specs.declared.Vec3.{Vec3}
 use Rattle.vectors.specs.Number.{finite}
 use Rattle.vectors.specs.Vec3.{finite_vec}
 use Rattle.vectors.proofs.Finite.{finite-parts}
-use Rattle.refusals.specs.declared.Found.{Found}
-use Rattle.refusals.specs.declared.Found.TheVariants.{At, Nothing}
 use Rattle.refusals.specs.Conditions.{first_bad}
 use Rattle.refusals.proofs.Conditions.{or_else, bad-append, first-later, first-none, all-good}
 use Rattle.requests.specs.declared.Agent.{Agent}
@@ -27,6 +25,7 @@ use Rattle.requests.specs.Request.{preferred_place, max_speed_place, time_step_p
 use Rattle.requests.specs.Checks.{call_kind, outside, bad_number, first_of, bad_fallback}
 use Rattle.requests.proofs.AgentNumbers.{numbers-many}
 use Rattle.requests.proofs.Ranges.{never-outside}
+use Rattle.std.specs.Prelude.{Option, Some, None}
 
 -- a number that is asked whether it is finite, wherever it stands
 pub bad-if-not-finite : (place : ℕ) (x : Float) → bad_number Finite place x ≡ not (finite x)
@@ -98,15 +97,15 @@ vector_numbers v = v.x ∷ v.y ∷ v.z ∷ []
 abbrev other_numbers : Request → List Float → List Float
 other_numbers request neighbours = request.max_speed ∷ request.time_step ∷ request.horizon ∷ vector_numbers request.fallback ++ neighbours
 
-or_nothing : (found : Found) → or_else found Nothing ≡ found
-or_nothing (At place) = refl
-or_nothing Nothing = refl
+or_nothing : (found : Option ℕ) → or_else found None ≡ found
+or_nothing (Some place) = refl
+or_nothing None = refl
 
 module _ (asked : Asked) where
-  abbrev pub first_from : ℕ → List Float → Found
+  abbrev pub first_from : ℕ → List Float → Option ℕ
   first_from place xs = first_bad (bad_number asked) place xs
 
-  agent-good : (p : ℕ) (a : Agent) → AgentFrom p → FitAgent a → first_from p (agent_numbers a) ≡ Nothing
+  agent-good : (p : ℕ) (a : Agent) → AgentFrom p → FitAgent a → first_from p (agent_numbers a) ≡ None
   unfolding agent_numbers
   agent-good p a kinds fit = all-good (bad_number asked) p (agent_numbers a) nan go
     where
@@ -125,10 +124,10 @@ module _ (asked : Asked) where
       go (suc (suc (suc (suc (suc (suc (suc (suc j)))))))) h = absurd (omega arith)
 
   -- none of the first ones is bad, and the next come after them
-  passed_over : (p : ℕ) (xs ys : List Float) → first_from p xs ≡ Nothing → first_from p (xs ++ ys) ≡ first_from (p + length xs) ys
-  passed_over p xs ys none_of = bad-append (bad_number asked) p xs ys ∙ ap (λ (found : Found). or_else found (first_from (p + length xs) ys)) none_of
+  passed_over : (p : ℕ) (xs ys : List Float) → first_from p xs ≡ None → first_from p (xs ++ ys) ≡ first_from (p + length xs) ys
+  passed_over p xs ys none_of = bad-append (bad_number asked) p xs ys ∙ ap (λ (found : Option ℕ). or_else found (first_from (p + length xs) ys)) none_of
 
-  neighbours-good : (k : ℕ) {n : ℕ} {xs : List Float} → FitNeighbours n xs → first_from (per_request + per_agent * k) xs ≡ Nothing
+  neighbours-good : (k : ℕ) {n : ℕ} {xs : List Float} → FitNeighbours n xs → first_from (per_request + per_agent * k) xs ≡ None
   neighbours-good k none = first-none (bad_number asked) (per_request + per_agent * k) [] refl
   neighbours-good k (more {xs = xs} a fit later) =
       let p = per_request + per_agent * k in
@@ -137,11 +136,11 @@ module _ (asked : Asked) where
       ∙ ap (λ (place : ℕ). first_from place xs) next
       ∙ neighbours-good (suc k) later
 
-  one-good : (place : ℕ) (kind : Kind) (x : Float) (xs : List Float) → call_kind place ≡ kind → Allowed kind x → first_from (place + 1) xs ≡ Nothing → first_from place (x ∷ xs) ≡ Nothing
+  one-good : (place : ℕ) (kind : Kind) (x : Float) (xs : List Float) → call_kind place ≡ kind → Allowed kind x → first_from (place + 1) xs ≡ None → first_from place (x ∷ xs) ≡ None
   one-good place kind x xs is allowed later = first-later (bad_number asked) place x xs (x ∷ xs) refl (good asked place kind x is allowed) ∙ later
 
   module _ (request : Request) (fit : FitRequest request) {n : ℕ} (neighbours : List Float) (fits : FitNeighbours n neighbours) where
-    others-good : first_from max_speed_place (other_numbers request neighbours) ≡ Nothing
+    others-good : first_from max_speed_place (other_numbers request neighbours) ≡ None
     unfolding call_kind
     others-good =
         let (x-finite, (y-finite, z-finite)) = finite-parts request.fallback fit.fallback in

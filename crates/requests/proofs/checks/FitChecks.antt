@@ -9,12 +9,8 @@ use lib.ListN.{length, length-append}
 use lib.Ieee.{Float, nan}
 use borrow.Author.Tests.{le-ltb}
 use Rattle.vectors.specs.declared.Vec3.{Vec3}
-use Rattle.refusals.specs.declared.Found.{Found}
-use Rattle.refusals.specs.declared.Found.TheVariants.{At, Nothing}
 use Rattle.refusals.specs.declared.Refusal.TheVariants.{ShortScratch, NotFinite}
-use Rattle.refusals.specs.declared.Verdict.{Verdict}
-use Rattle.refusals.specs.declared.Verdict.TheVariants.{Passed, Refused}
-use Rattle.refusals.specs.Verdict.{◌⊳◌, refused_if, refused_at}
+use Rattle.refusals.specs.Verdict.{◌⊳◌, refused_if, refused_at, Verdict, passed}
 use Rattle.refusals.proofs.Conditions.{first-later, first-none, found-lowest}
 use Rattle.requests.specs.declared.Request.{Request}
 use Rattle.requests.specs.declared.Asked.TheVariants.{Finite, InRange}
@@ -24,28 +20,29 @@ use Rattle.requests.specs.Checks.{most_neighbours, call_kind, bad_number, ragged
 use Rattle.requests.proofs.AgentNumbers.{numbers-many}
 use Rattle.requests.proofs.Ranges.{never-outside}
 use Rattle.requests.proofs.checks.CallNumbers.{FitRequest, FitNeighbours, vector_numbers, first_from, first-preferred}
+use Rattle.std.specs.Prelude.{Option, Some, None, Err}
 
 pub data FitVerdict : Verdict → Type 0 where
-  passes : FitVerdict Passed
-  short_of : (needed : ℕ) → FitVerdict (Refused (ShortScratch needed))
-  far_preferred : (place : ℕ) → preferred_place ≤ place → place < max_speed_place → FitVerdict (Refused (NotFinite place))
+  passes : FitVerdict passed
+  short_of : (needed : ℕ) → FitVerdict (Err (ShortScratch needed))
+  far_preferred : (place : ℕ) → preferred_place ≤ place → place < max_speed_place → FitVerdict (Err (NotFinite place))
 
 -- nothing, or a place of the preferred velocity
-data InPreferred : Found → Type 0 where
-  nowhere : InPreferred Nothing
-  somewhere : (place : ℕ) → preferred_place ≤ place → place < max_speed_place → InPreferred (At place)
+data InPreferred : Option ℕ → Type 0 where
+  nowhere : InPreferred None
+  somewhere : (place : ℕ) → preferred_place ≤ place → place < max_speed_place → InPreferred (Some place)
 
 preferred-finite : (v : Vec3) → InPreferred (first_from Finite preferred_place (vector_numbers v))
 preferred-finite v = go (first_from Finite preferred_place (vector_numbers v)) refl
   where
-    go : (found : Found) → first_from Finite preferred_place (vector_numbers v) ≡ found → InPreferred found
-    go (At place) e =
+    go : (found : Option ℕ) → first_from Finite preferred_place (vector_numbers v) ≡ found → InPreferred found
+    go (Some place) e =
         let lowest = found-lowest (bad_number Finite) preferred_place (vector_numbers v) nan place e in
         somewhere place (omega (arith, lowest.at)) (omega (arith, lowest.at, lowest.within))
-    go Nothing e = nowhere
+    go None e = nowhere
 
 -- its numbers have no range
-preferred-in-range : (v : Vec3) → first_from InRange preferred_place (vector_numbers v) ≡ Nothing
+preferred-in-range : (v : Vec3) → first_from InRange preferred_place (vector_numbers v) ≡ None
 unfolding bad_number call_kind
 preferred-in-range v =
     first-later (bad_number InRange) preferred_place v.x _ _ refl (never-outside v.x)
@@ -65,10 +62,10 @@ neighbours-whole {xs = xs} fits =
 neighbours-few : {n : ℕ} {xs : List Float} → FitNeighbours n xs → n ≤ most_neighbours → too_many xs ≡ false
 neighbours-few {xs = xs} fits few = le-ltb most_neighbours (length xs / per_agent) (omega (arith, fit_length fits))
 
-checked : (short : Bool) (needed : ℕ) (found : Found) → InPreferred found → FitVerdict (refused_if short (ShortScratch needed) ⊳ refused_at found NotFinite ⊳ Passed)
+checked : (short : Bool) (needed : ℕ) (found : Option ℕ) → InPreferred found → FitVerdict (refused_if short (ShortScratch needed) ⊳ refused_at found NotFinite ⊳ passed)
 checked true needed found unfinite = short_of needed
-checked false needed Nothing nowhere = passes
-checked false needed (At place) (somewhere _ low high) = far_preferred place low high
+checked false needed None nowhere = passes
+checked false needed (Some place) (somewhere _ low high) = far_preferred place low high
 
 pub fit-checks : (request : Request) (neighbours : List Float) (n k : ℕ) → FitRequest request → FitNeighbours n neighbours → n ≤ most_neighbours → FitVerdict (checks request neighbours k)
 unfolding checks

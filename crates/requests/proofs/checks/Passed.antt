@@ -9,9 +9,7 @@ use Rattle.vectors.specs.declared.Vec3.{Vec3}
 use Rattle.vectors.specs.Vec3.{all_zero}
 use Rattle.vectors.proofs.vector.NotZero.{zero-dot}
 use Rattle.refusals.specs.declared.Refusal.TheVariants.{RaggedNeighbours, TooManyNeighbours, ShortScratch, NotFinite, OutOfRange, BadFallback}
-use Rattle.refusals.specs.declared.Verdict.{Verdict}
-use Rattle.refusals.specs.declared.Verdict.TheVariants as verdict
-use Rattle.refusals.specs.Verdict.{◌⊳◌, refused_if, refused_at}
+use Rattle.refusals.specs.Verdict.{◌⊳◌, refused_if, refused_at, Verdict, passed}
 use Rattle.refusals.proofs.Verdicts.{both-passed, does-not-hold}
 use Rattle.requests.specs.declared.Request.{Request}
 use Rattle.requests.specs.declared.Asked.TheVariants.{Finite, InRange}
@@ -27,7 +25,7 @@ other_checks request neighbours =
     ⊳ refused_if (bad_fallback request.fallback) (BadFallback fallback_place)
 
 -- what passed checks say
-module _ (request : Request) (neighbours : List Float) (k : ℕ) (passed : checks request neighbours k ≡ verdict.Passed) where
+module _ (request : Request) (neighbours : List Float) (k : ℕ) (are-passed : checks request neighbours k ≡ passed) where
   abbrev whole : Verdict
   whole = refused_if (ragged neighbours) RaggedNeighbours
 
@@ -37,14 +35,14 @@ module _ (request : Request) (neighbours : List Float) (k : ℕ) (passed : check
   abbrev long : Verdict
   long = refused_if (short_scratch neighbours k) (ShortScratch (needed_scratch neighbours))
 
-  whole-and-rest : (whole ≡ verdict.Passed) × ((few ⊳ long ⊳ other_checks request neighbours) ≡ verdict.Passed)
+  whole-and-rest : (whole ≡ passed) × ((few ⊳ long ⊳ other_checks request neighbours) ≡ passed)
   unfolding checks
-  whole-and-rest = both-passed whole (few ⊳ long ⊳ other_checks request neighbours) passed
+  whole-and-rest = both-passed whole (few ⊳ long ⊳ other_checks request neighbours) are-passed
 
-  few-and-rest : (few ≡ verdict.Passed) × ((long ⊳ other_checks request neighbours) ≡ verdict.Passed)
+  few-and-rest : (few ≡ passed) × ((long ⊳ other_checks request neighbours) ≡ passed)
   few-and-rest = both-passed few (long ⊳ other_checks request neighbours) whole-and-rest.1
 
-  long-and-rest : (long ≡ verdict.Passed) × (other_checks request neighbours ≡ verdict.Passed)
+  long-and-rest : (long ≡ passed) × (other_checks request neighbours ≡ passed)
   long-and-rest = both-passed long (other_checks request neighbours) few-and-rest.1
 
   -- the scratch is long enough

@@ -4,7 +4,6 @@ use mathlib.Core.Bool.{Bool}
 use mathlib.Core.List.{List, [], ◌∷◌}
 use Prim.Native.Nat.{ℕ}
 use lib.Ieee.{Float, nan}
-use Rattle.refusals.specs.declared.Found.TheVariants.{At}
 use Rattle.refusals.specs.declared.Refusal.{Refusal}
 use Rattle.refusals.specs.declared.Refusal.TheVariants as refusal
 use Rattle.refusals.specs.Conditions.{some, marked, first_bad, Lowest}
@@ -17,6 +16,7 @@ use Rattle.requests.specs.declared.Asked.TheVariants.{Finite, InRange}
 use Rattle.requests.specs.Lent.{agent_count}
 use Rattle.requests.specs.Request.{fallback_place}
 use Rattle.requests.specs.Checks.{bad_number, call_numbers, first_of, ragged, too_many, needed_scratch, short_scratch, bad_fallback, checks}
+use Rattle.std.specs.Prelude.{Some}
 
 pub checks-say : (request : Request) (neighbours : List Float) (k : ℕ)
     → Says (checks request neighbours k)
@@ -40,8 +40,8 @@ checks-say request neighbours k =
 -- a property of the refusals that they give
 pub checks-give : (Q : Refusal → Type 0) (request : Request) (neighbours : List Float) (k : ℕ)
     → Q refusal.RaggedNeighbours → Q (refusal.TooManyNeighbours (agent_count neighbours)) → Q (refusal.ShortScratch (needed_scratch neighbours))
-    → ((place : ℕ) → first_of Finite request neighbours ≡ At place → Q (refusal.NotFinite place))
-    → ((place : ℕ) → first_of InRange request neighbours ≡ At place → Q (refusal.OutOfRange place))
+    → ((place : ℕ) → first_of Finite request neighbours ≡ Some place → Q (refusal.NotFinite place))
+    → ((place : ℕ) → first_of InRange request neighbours ≡ Some place → Q (refusal.OutOfRange place))
     → Q (refusal.BadFallback fallback_place) → Gives Q (checks request neighbours k)
 unfolding checks
 checks-give Q request neighbours k whole few long finite in-range fit =
@@ -56,6 +56,6 @@ checks-give Q request neighbours k whole few long finite in-range fit =
     (gives_then Q unfinite (outside ⊳ unfit) (gives_found Q (first_of Finite request neighbours) refusal.NotFinite finite)
     (gives_then Q outside unfit (gives_found Q (first_of InRange request neighbours) refusal.OutOfRange in-range) (gives-held Q (bad_fallback request.fallback) _ fit)))))
 
-pub lowest-number : (request : Request) (neighbours : List Float) (asked : Asked) (place : ℕ) → first_of asked request neighbours ≡ At place → Lowest (bad_number asked) 0 (call_numbers request neighbours) nan place
+pub lowest-number : (request : Request) (neighbours : List Float) (asked : Asked) (place : ℕ) → first_of asked request neighbours ≡ Some place → Lowest (bad_number asked) 0 (call_numbers request neighbours) nan place
 unfolding first_of
 lowest-number request neighbours asked place e = found-lowest (bad_number asked) 0 (call_numbers request neighbours) nan place e

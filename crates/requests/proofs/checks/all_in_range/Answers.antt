@@ -1,5 +1,5 @@
 -- Each turn passes over a neighbour's eight numbers: six may be anything, and neither of the last two is negative while `all` holds.
-use mathlib.Core.Path.{◌≡◌, refl, sym, ap, ◌∙◌}
+use mathlib.Core.Path.{◌≡◌, sym, ap, ◌∙◌}
 use mathlib.Core.Bool.{Bool, false, cond, false≢true}
 use mathlib.Core.List.{List}
 use Prim.Native.Nat.{ℕ, ◌+◌, ◌-◌, ◌*◌, ◌%◌, ◌≤◌, ◌<◌}
@@ -10,7 +10,6 @@ use lib.ListN.{length, get_or, drop}
 use borrow.Author.Tests.{le-ltb, le-leb, lt-leb}
 use Rattle.vectors.specs.Number.{◌<ᶠ◌, zero}
 use Rattle.requests.specs.declared.Asked.TheVariants.{InRange}
-use Rattle.refusals.specs.declared.Found.{Found}
 use Rattle.requests.specs.declared.Kind.{Kind}
 use Rattle.requests.specs.declared.Kind.TheVariants.{Any, NotNegative}
 use Rattle.refusals.specs.Conditions.{first_bad}
@@ -18,6 +17,7 @@ use Rattle.refusals.proofs.Conditions.{bad-later, bad-skip, bad-past}
 use Rattle.requests.specs.Checks.{bad_number, outside, call_kind}
 use Rattle.requests.proofs.checks.all_in_range.Goals as goal
 use Rattle.requests.proofs.checks.all_in_range.Goals.{then-is_negative, else-is_negative}
+use Rattle.std.specs.Prelude.{Option}
 
 -- what is asked of a neighbour's number k
 kind-of : (index k : ℕ) → k < 8 → call_kind (17 + (8 * index + k)) ≡ cond (leb 6 k) NotNegative Any
@@ -38,7 +38,7 @@ last index k x h g is = ap (λ (kind : Kind). outside kind x) (kind-of index k g
 neighbour : (index : ℕ) (xs : List Float) → 8 * index + 8 ≤ length xs → (get_or xs (8 * index + 6) nan <ᶠ zero ≡ false) × (get_or xs (8 * index + 7) nan <ᶠ zero ≡ false)
     → first_bad (bad_number InRange) (17 + 8 * index) (drop (8 * index) xs) ≡ first_bad (bad_number InRange) (17 + 8 * (index + 1)) (drop (8 * (index + 1)) xs)
 neighbour index xs h good =
-    let from : ℕ → Found = λ k. first_bad (bad_number InRange) (17 + k) (drop k xs) in
+    let from : ℕ → (Option ℕ) = λ k. first_bad (bad_number InRange) (17 + k) (drop k xs) in
     let seventh : 8 * index + 6 + 1 ≡ 8 * index + 7 = omega arith in
     let next : 8 * index + 7 + 1 ≡ 8 * (index + 1) = omega arith in
     bad-skip (bad_number InRange) 6 17 (8 * index) xs nan (omega (arith, h)) (λ k less. any index k _ less)
@@ -47,18 +47,10 @@ neighbour index xs h good =
     ∙ bad-later (bad_number InRange) 17 (8 * index + 7) xs nan (omega (arith, h)) (last index 7 _ (omega arith) (omega arith) good.1)
     ∙ ap from next
 
-pub returns-then-numbers-ne0 : goal.returns-then-numbers-ne0
-returns-then-numbers-ne0 c = λ all. absurd (false≢true all)
-
-pub loop-index-init : goal.loop-index-init
-loop-index-init c = (omega arith, λ all. refl)
-
 pub loop-index-preserved : goal.loop-index-preserved
-loop-index-preserved c = (
-  omega arith,
-  elim c.if-is_negative.branch [ then-is_negative w ↦ λ all. absurd (false≢true (sym w.all-is ∙ all)) | else-is_negative w ↦ λ all. sym (neighbour c.loop-index.index c.args.numbers.now (omega arith) (c.is_negative.ensures w.if-is_negative.false)) ∙ c.loop-index.invariant.1 (sym w.all-is ∙ all) ],
-)
+loop-index-preserved c =
+    elim c.if-is_negative.branch [ then-is_negative w ↦ λ all. absurd (false≢true (sym w.all-is ∙ all)) | else-is_negative w ↦ λ all. sym (neighbour c.loop-index.index c.args.numbers.now (omega arith) (c.is_negative.ensures w.if-is_negative.false)) ∙ c.loop-index.invariant (sym w.all-is ∙ all) ]
 
 pub returns : goal.returns
 returns c =
-    λ all. sym (c.loop-index.invariant.1 all) ∙ bad-past (bad_number InRange) _ (8 * c.loop-index.index) c.args.numbers.now (omega arith)
+    λ all. sym (c.loop-index.invariant all) ∙ bad-past (bad_number InRange) _ (8 * c.loop-index.index) c.args.numbers.now (omega arith)
