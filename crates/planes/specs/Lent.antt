@@ -1,13 +1,11 @@
 -- Vectors, agents and requests read from lent numbers.
-use Rattle.std.specs.Prelude.{cond, List, eqb, length, get_or, drop, Float}
+use Rattle.std.specs.Prelude.{cond, Option, Some, None, List, eqb, length, get_or, drop, Float}
 use Rattle.std.specs.Float.{nan}
 use Rattle.vectors.specs.declared.Vec3.{Vec3}
 use Rattle.requests.specs.declared.Agent.{Agent}
 use Rattle.requests.specs.declared.Request.{Request}
 use Rattle.requests.specs.Lent.{velocity_place, radius_place, responsibility_place}
 use Rattle.requests.specs.Request.{preferred_place, max_speed_place, time_step_place, horizon_place, fallback_place, per_request}
-use Rattle.planes.specs.declared.lent.ReadRequest.{ReadRequest}
-use Rattle.planes.specs.declared.lent.ReadRequest.TheVariants.{Is, BadLength}
 
 -- the vector in the first three numbers of a list
 unfoldable pub vector_at : List Float → Vec3
@@ -34,5 +32,5 @@ request_at xs = record {
 }
 
 -- it is read from 17 numbers, no more and no fewer
-unfoldable pub read_request : List Float → ReadRequest
-read_request xs = cond (eqb (length xs) per_request) (Is (request_at xs)) BadLength
+unfoldable pub read_request : List Float → Option Request
+read_request xs = cond (eqb (length xs) per_request) (Some (request_at xs)) None

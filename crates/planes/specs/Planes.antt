@@ -1,16 +1,14 @@
 -- The planes from the neighbours: `get_plane_for_neighbour` for each, which of the neighbours are unseen, and what is written of the planes.
-use Rattle.std.specs.Prelude.{ℕ, zero, suc, Bool, not, ◌&&◌, cond, List, [], ◌∷◌, drop, Float}
+use Rattle.std.specs.Prelude.{ℕ, zero, suc, Bool, not, ◌&&◌, cond, List, [], ◌∷◌, drop, Float, Option, Some, None, Result, Ok, Err}
 use Rattle.vectors.specs.Vec3.{finite_vec}
-use Rattle.refusals.specs.declared.Found.{Found}
-use Rattle.refusals.specs.declared.Found.TheVariants.{At, Nothing}
+use Rattle.refusals.specs.declared.Refusal.{Refusal}
+use Rattle.refusals.specs.declared.Refusal.TheVariants.{PlaneNotFinite}
 use Rattle.refusals.specs.Conditions.{first_bad}
 use Rattle.solver.specs.declared.Plane.{Plane}
 use Rattle.solver.specs.Lent.{with_plane}
 use Rattle.requests.specs.declared.Request.{Request}
 use Rattle.requests.specs.Lent.{per_agent, agent_count}
 use Rattle.planes.specs.declared.NeighbourPlane.{NeighbourPlane}
-use Rattle.planes.specs.declared.Made.{Made}
-use Rattle.planes.specs.declared.Made.TheVariants.{Finite, NotFinite}
 use Rattle.planes.specs.Lent.{agent_at}
 use Rattle.planes.specs.Neighbour.{plane_for}
 
@@ -42,7 +40,7 @@ unseen_of_call request neighbours = unseen_from request (agent_count neighbours)
 abbrev pub is_unseen : ℕ → Bool → Bool
 is_unseen neighbour unseen = unseen
 
-abbrev pub first_unseen : Request → List Float → Found
+abbrev pub first_unseen : Request → List Float → Option ℕ
 first_unseen request neighbours = first_bad is_unseen 0 (unseen_of_call request neighbours)
 
 unfoldable pub finite_plane : Plane → Bool
@@ -54,10 +52,14 @@ bad_plane index plane = not (finite_plane plane)
 
 -- ---- what is made and written of them
 
+-- the first neighbour that is unseen, if one is, or the refusal of a plane
+abbrev pub Made : Type 0
+Made = Result (Option ℕ) Refusal
+
 -- the first plane that is not finite, or else the first neighbour that is unseen
-abbrev pub made_of : Found → Found → Made
-made_of (At neighbour) unseen = NotFinite neighbour
-made_of Nothing unseen = Finite unseen
+abbrev pub made_of : Option ℕ → Option ℕ → Made
+made_of (Some neighbour) unseen = Err (PlaneNotFinite neighbour)
+made_of None unseen = Ok unseen
 
 unfoldable pub planes_made : Request → List Float → Made
 planes_made request neighbours = made_of (first_bad bad_plane 0 (planes_of_call request neighbours)) (first_unseen request neighbours)

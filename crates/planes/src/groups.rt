@@ -1,93 +1,81 @@
 // Eight neighbours at once through the stages of their planes: no neighbour waits for another. What is known of the eight
 // is kept a component at a time, each in an array with a lane for each neighbour, so that a loop over the lanes reads and
 // writes whole vectors of the machine. What the functions promise each other is in `specs/parts/Groups.antt`.
-ghost use Rattle.std.specs.Prelude.{◌≡◌, true, map, ◌+◌, ◌≤◌, ◌<◌};
+ghost use Rattle.std.specs.Prelude.{◌≡◌, true, map};
 ghost use Rattle.vectors.specs.Root.{root};
-ghost use Rattle.requests.specs.Lent.{agent_count};
 ghost use Rattle.planes.specs.parts.Groups.{Related, Approached, Directed, Planed, Standing};
 
-use super::lent::neighbour_at;
-use super::neighbour::Relation;
-use super::stages::{Approach, Direction, approach_of, direction_with, plane_with, relation_of};
+use super::lent::Group;
+use super::neighbour::{Relation, relation_of};
+use super::stages::{Approach, Direction, approach_of, direction_with, plane_with};
 use requests::Request;
 use vectors::Vec3;
-use vectors::roots::roots;
-
-// The neighbours of a group.
-pub const LANES: usize = 8;
+use vectors::roots::{LANES, roots};
 
 // Eight relations, and the responsibilities of the others.
+// An array of each component, and none of `Relation`: what the vector unit loads at once stands side by side.
 #[derive(Clone, Copy)]
 pub struct Relations {
-    pub position_x: [f32; 8],
-    pub position_y: [f32; 8],
-    pub position_z: [f32; 8],
-    pub velocity_x: [f32; 8],
-    pub velocity_y: [f32; 8],
-    pub velocity_z: [f32; 8],
-    pub radius_sum: [f32; 8],
-    pub responsibility: [f32; 8],
+    pub position_x: [f32; LANES],
+    pub position_y: [f32; LANES],
+    pub position_z: [f32; LANES],
+    pub velocity_x: [f32; LANES],
+    pub velocity_y: [f32; LANES],
+    pub velocity_z: [f32; LANES],
+    pub radius_sum: [f32; LANES],
+    pub responsibility: [f32; LANES],
 }
 
+// Eight approaches: an array of each component for the vector unit, as of the relations.
 #[derive(Clone, Copy)]
 pub struct Approaches {
-    pub center_x: [f32; 8],
-    pub center_y: [f32; 8],
-    pub center_z: [f32; 8],
-    pub radius: [f32; 8],
-    pub part: [f32; 8],
-    pub is_free: [bool; 8],
-    pub is_cone: [bool; 8],
-    pub number: [f32; 8],
+    pub center_x: [f32; LANES],
+    pub center_y: [f32; LANES],
+    pub center_z: [f32; LANES],
+    pub radius: [f32; LANES],
+    pub part: [f32; LANES],
+    pub is_free: [bool; LANES],
+    pub is_cone: [bool; LANES],
+    pub number: [f32; LANES],
 }
 
+// Eight directions: an array of each component for the vector unit, as of the relations.
 #[derive(Clone, Copy)]
 pub struct Directions {
-    pub x: [f32; 8],
-    pub y: [f32; 8],
-    pub z: [f32; 8],
-    pub square: [f32; 8],
+    pub x: [f32; LANES],
+    pub y: [f32; LANES],
+    pub z: [f32; LANES],
+    pub square: [f32; LANES],
 }
 
-// Eight planes, and whether each is unseen.
+// Eight planes, and whether each is unseen: an array of each component for the vector unit, as of the relations.
 #[derive(Clone, Copy)]
 pub struct Planes {
-    pub point_x: [f32; 8],
-    pub point_y: [f32; 8],
-    pub point_z: [f32; 8],
-    pub normal_x: [f32; 8],
-    pub normal_y: [f32; 8],
-    pub normal_z: [f32; 8],
-    pub unseen: [bool; 8],
+    pub point_x: [f32; LANES],
+    pub point_y: [f32; LANES],
+    pub point_z: [f32; LANES],
+    pub normal_x: [f32; LANES],
+    pub normal_y: [f32; LANES],
+    pub normal_z: [f32; LANES],
+    pub unseen: [bool; LANES],
 }
 
-// The lane whose neighbour stands in `lane`: the lanes that are left in a group of `size` are filled up with the first.
-fn source_of(lane: usize, size: usize) -> usize
-    requires { 0 < size }
-    ensures { (result < size) × (lane < size → result ≡ lane) }
-{
-    if lane < size { lane } else { 0 }
-}
-
-// The relations to the `size` neighbours from `start` on.
-fn relations_of(request: Request, neighbours: &[f32], start: usize, size: usize) -> Relations
-    requires { (0 < size) × (size ≤ 8) × (start + size ≤ agent_count neighbours.now) }
-    ensures { Related request neighbours.now start size result }
+// The relations to the neighbours of a group.
+fn relations_of(request: Request, group: Group) -> Relations
+    ensures { Related request group.entry.neighbours.now group.entry.start group.entry.size result }
 {
     let mut lanes = Relations {
-        position_x: [0.0; 8],
-        position_y: [0.0; 8],
-        position_z: [0.0; 8],
-        velocity_x: [0.0; 8],
-        velocity_y: [0.0; 8],
-        velocity_z: [0.0; 8],
-        radius_sum: [0.0; 8],
-        responsibility: [0.0; 8],
+        position_x: [0.0; LANES],
+        position_y: [0.0; LANES],
+        position_z: [0.0; LANES],
+        velocity_x: [0.0; LANES],
+        velocity_y: [0.0; LANES],
+        velocity_z: [0.0; LANES],
+        radius_sum: [0.0; LANES],
+        responsibility: [0.0; LANES],
     };
-    let mut lane = 0;
-    while lane < LANES {
-        let source = source_of(lane, size);
-        let neighbour = neighbour_at(neighbours, start + source);
+    for lane in 0..LANES {
+        let neighbour = group.neighbour_in(lane);
         let relation = relation_of(request.agent, neighbour);
         lanes.position_x[lane] = relation.position.x;
         lanes.position_y[lane] = relation.position.y;
@@ -97,7 +85,6 @@ fn relations_of(request: Request, neighbours: &[f32], start: usize, size: usize)
         lanes.velocity_z[lane] = relation.velocity.z;
         lanes.radius_sum[lane] = relation.radius_sum;
         lanes.responsibility[lane] = neighbour.responsibility;
-        lane += 1;
     }
     lanes
 }
@@ -107,17 +94,16 @@ fn approaches_of(relations: Relations, own: f32, horizon: f32, time_step: f32) -
     ensures { Approached relations own horizon time_step result }
 {
     let mut lanes = Approaches {
-        center_x: [0.0; 8],
-        center_y: [0.0; 8],
-        center_z: [0.0; 8],
-        radius: [0.0; 8],
-        part: [0.0; 8],
-        is_free: [false; 8],
-        is_cone: [false; 8],
-        number: [0.0; 8],
+        center_x: [0.0; LANES],
+        center_y: [0.0; LANES],
+        center_z: [0.0; LANES],
+        radius: [0.0; LANES],
+        part: [0.0; LANES],
+        is_free: [false; LANES],
+        is_cone: [false; LANES],
+        number: [0.0; LANES],
     };
-    let mut lane = 0;
-    while lane < LANES {
+    for lane in 0..LANES {
         let relation = Relation {
             position: Vec3 {
                 x: relations.position_x[lane],
@@ -141,26 +127,24 @@ fn approaches_of(relations: Relations, own: f32, horizon: f32, time_step: f32) -
         lanes.is_free[lane] = approach.is_free;
         lanes.is_cone[lane] = approach.is_cone;
         lanes.number[lane] = approach.number;
-        lane += 1;
     }
     lanes
 }
 
-// Whether each of the numbers is a zero.
-fn all_zero(numbers: [f32; 8]) -> bool
+// Whether each of the numbers is a zero. Counted, and not asked by `all`, which would leave the lanes at the first other.
+#[tactic(auto, using(crate::proofs::groups::Lanes::zero_root))]
+fn all_zero(numbers: [f32; LANES]) -> bool
     ensures { result ≡ true → map root numbers ≡ numbers }
 {
     let mut others: u32 = 0;
-    let mut lane = 0;
-    while lane < LANES {
+    for lane in 0..LANES {
         others += if numbers[lane] == 0.0 { 0 } else { 1 };
-        lane += 1;
     }
     others == 0
 }
 
 // The roots of the numbers: where each is a zero, as where no neighbour is a cone, they are the numbers.
-fn first_roots(numbers: [f32; 8]) -> [f32; 8]
+fn first_roots(numbers: [f32; LANES]) -> [f32; LANES]
     ensures { result ≡ map root numbers }
 {
     if all_zero(numbers) {
@@ -171,17 +155,16 @@ fn first_roots(numbers: [f32; 8]) -> [f32; 8]
 }
 
 // The second stage.
-fn directions_with(relations: Relations, approaches: Approaches, roots: [f32; 8]) -> Directions
+fn directions_with(relations: Relations, approaches: Approaches, roots: [f32; LANES]) -> Directions
     ensures { Directed relations approaches roots result }
 {
     let mut lanes = Directions {
-        x: [0.0; 8],
-        y: [0.0; 8],
-        z: [0.0; 8],
-        square: [0.0; 8],
+        x: [0.0; LANES],
+        y: [0.0; LANES],
+        z: [0.0; LANES],
+        square: [0.0; LANES],
     };
-    let mut lane = 0;
-    while lane < LANES {
+    for lane in 0..LANES {
         let position = Vec3 {
             x: relations.position_x[lane],
             y: relations.position_y[lane],
@@ -208,7 +191,6 @@ fn directions_with(relations: Relations, approaches: Approaches, roots: [f32; 8]
         lanes.y[lane] = direction.vector.y;
         lanes.z[lane] = direction.vector.z;
         lanes.square[lane] = direction.square;
-        lane += 1;
     }
     lanes
 }
@@ -219,21 +201,20 @@ fn planes_with(
     relations: Relations,
     approaches: Approaches,
     directions: Directions,
-    lengths: [f32; 8],
+    lengths: [f32; LANES],
 ) -> Planes
     ensures { Planed request relations approaches directions lengths result }
 {
     let mut lanes = Planes {
-        point_x: [0.0; 8],
-        point_y: [0.0; 8],
-        point_z: [0.0; 8],
-        normal_x: [0.0; 8],
-        normal_y: [0.0; 8],
-        normal_z: [0.0; 8],
-        unseen: [false; 8],
+        point_x: [0.0; LANES],
+        point_y: [0.0; LANES],
+        point_z: [0.0; LANES],
+        normal_x: [0.0; LANES],
+        normal_y: [0.0; LANES],
+        normal_z: [0.0; LANES],
+        unseen: [false; LANES],
     };
-    let mut lane = 0;
-    while lane < LANES {
+    for lane in 0..LANES {
         let velocity = Vec3 {
             x: relations.velocity_x[lane],
             y: relations.velocity_y[lane],
@@ -274,17 +255,15 @@ fn planes_with(
         lanes.normal_y[lane] = made.plane.normal.y;
         lanes.normal_z[lane] = made.plane.normal.z;
         lanes.unseen[lane] = made.unseen;
-        lane += 1;
     }
     lanes
 }
 
-// The planes for the `size` neighbours from `start` on.
-pub(crate) fn planes_of(request: Request, neighbours: &[f32], start: usize, size: usize) -> Planes
-    requires { (0 < size) × (size ≤ 8) × (start + size ≤ agent_count neighbours.now) }
-    ensures { Standing request neighbours.now start size result }
+// The planes for the neighbours of a group.
+pub(crate) fn planes_of(request: Request, group: Group) -> Planes
+    ensures { Standing request group.entry.neighbours.now group.entry.start group.entry.size result }
 {
-    let relations = relations_of(request, neighbours, start, size);
+    let relations = relations_of(request, group);
     let approaches = approaches_of(
         relations,
         request.agent.responsibility,

@@ -9,14 +9,8 @@ use requests::{
 };
 use vectors::Vec3;
 
-// What reading a request from lent numbers gives.
-#[derive(Clone, Copy)]
-pub enum ReadRequest {
-    Is(Request),
-    BadLength,
-}
-
 // The vector in the three numbers from `at` on.
+#[tactic(auto, unfolding(crate::specs::Lent::vector_at))]
 pub(crate) fn vector_at(numbers: &[f32], at: usize) -> Vec3
     requires { at + 3 ≤ length numbers.now }
     ensures { result ≡ vector_at (drop at numbers.now) }
@@ -49,14 +43,36 @@ pub(crate) fn neighbour_at(neighbours: &[f32], index: usize) -> Agent
     agent_at(neighbours, AGENT_NUMBERS * index)
 }
 
-// The request whose 17 numbers are lent, each at its place.
-pub fn read_request(numbers: &[f32]) -> ReadRequest
+// Neighbours that stand side by side among those lent, `size` of them from `start` on: at most one for each of eight lanes.
+#[derive(Clone, Copy)]
+pub(crate) struct Group<'a> {
+    pub neighbours: &'a [f32],
+    pub start: usize,
+    pub size: usize,
+    ghost some: { 0 < size },
+    ghost few: { size ≤ 8 },
+    ghost lent: { start + size ≤ agent_count neighbours.now },
+}
+
+impl<'a> Group<'a> {
+    // The neighbour that stands in `lane`: the lanes that are left are filled up with the first.
+    pub(crate) fn neighbour_in(self, lane: usize) -> Agent
+        ensures { lane < self.entry.size → result ≡ agent_at (drop (per_agent * (self.entry.start + lane)) self.entry.neighbours.now) }
+    {
+        let source = if lane < self.size { lane } else { 0 };
+        neighbour_at(self.neighbours, self.start + source)
+    }
+}
+
+// The request whose 17 numbers are lent, each at its place; none where they are more or fewer.
+#[tactic(auto, unfolding(crate::specs::Lent::read_request, crate::specs::Lent::request_at))]
+pub fn read_request(numbers: &[f32]) -> Option<Request>
     ensures { result ≡ read_request numbers.now }
 {
     if numbers.len() != REQUEST_NUMBERS {
-        return ReadRequest::BadLength;
+        return None;
     }
-    ReadRequest::Is(Request {
+    Some(Request {
         agent: agent_at(numbers, 0),
         preferred: vector_at(numbers, PREFERRED_PLACE),
         max_speed: numbers[MAX_SPEED_PLACE],

@@ -8,21 +8,18 @@ pub mod neighbour;
 mod stages;
 pub mod writing;
 
-use refusals::Found;
+use refusals::Refusal;
 use solver::Plane;
 
 // The half-space of velocities that avoid a neighbour, and whether the neighbour is unseen: head-on past the
 // tangent ring no normal can be made, it is zero, and the plane keeps no velocity out.
+// A flag beside the plane, and no `Option`: the plane is written either way.
 #[derive(Clone, Copy)]
 pub struct NeighbourPlane {
     pub plane: Plane,
     pub unseen: bool,
 }
 
-// What making the planes came to: all are finite, with the first neighbour that is unseen, if one is; or the
-// neighbour whose plane is not.
-#[derive(Clone, Copy)]
-pub enum Made {
-    Finite(Found),
-    NotFinite(usize),
-}
+// What making the planes came to: the first neighbour that is unseen, if one is; or the refusal of the first plane that is
+// not finite.
+pub type Made = Result<Option<usize>, Refusal>;

@@ -3,12 +3,10 @@
 // neighbour, and what it needs is selected: a stage has no way out, so the compiler makes vector code of eight. The
 // definitions are in `specs/parts/Stages.antt`.
 ghost use Rattle.std.specs.Prelude.{◌≡◌, cond};
-ghost use Rattle.planes.specs.Neighbour.{relation_of};
 ghost use Rattle.planes.specs.parts.Stages.{discriminant, before_ring, approach_of, direction_with, usable, projected_with, plane_with};
 
 use super::NeighbourPlane;
 use super::neighbour::{Projection, Relation};
-use requests::Agent;
 use solver::Plane;
 use vectors::Vec3;
 use vectors::number::is_finite;
@@ -16,6 +14,7 @@ use vectors::number::is_finite;
 // What the first stage makes of a neighbour, and the later ones go by: the cut-off sphere, at the horizon or in a
 // collision at the end of the step; our part of the way; whether there is no collision; whether the relative velocity is
 // projected to the cut-off shadow, a cone; and the number that is to be rooted first, which only a cone has.
+// Tests beside numbers, and no enum: each lane has them all, and what it needs is selected without a branch.
 #[derive(Clone, Copy)]
 pub struct Approach {
     pub center: Vec3,
@@ -35,18 +34,13 @@ pub struct Direction {
 
 // ---- selections
 
-fn either(test: bool, yes: f32, no: f32) -> f32
+fn either<T: Copy>(test: bool, yes: T, no: T) -> T
     ensures { result ≡ cond test yes no }
 {
     if test { yes } else { no }
 }
 
-fn either_bool(test: bool, yes: bool, no: bool) -> bool
-    ensures { result ≡ cond test yes no }
-{
-    if test { yes } else { no }
-}
-
+// By components, and not by `either` of a whole vector: three selected numbers keep a stage without a branch.
 fn either_vector(test: bool, yes: Vec3, no: Vec3) -> Vec3
     ensures { result ≡ cond test yes no }
 {
@@ -59,18 +53,9 @@ fn either_vector(test: bool, yes: Vec3, no: Vec3) -> Vec3
 
 // ---- the first stage
 
-pub(crate) fn relation_of(agent: Agent, neighbour: Agent) -> Relation
-    ensures { result ≡ relation_of agent neighbour }
-{
-    Relation {
-        position: neighbour.position.sub(agent.position),
-        velocity: agent.velocity.sub(neighbour.velocity),
-        radius_sum: agent.radius + neighbour.radius,
-    }
-}
-
 // What is rooted for the time t of a cone; `cone_time` says why.
-fn discriminant(relation: Relation) -> f32
+#[tactic(auto, unfolding(crate::specs::parts::Stages::discriminant))]
+pub(crate) fn discriminant(relation: Relation) -> f32
     ensures { result ≡ discriminant relation }
 {
     let a = relation.position.length_squared();
@@ -82,14 +67,16 @@ fn discriminant(relation: Relation) -> f32
 }
 
 // Whether the relative velocity lies before the tangent ring of the cut-off sphere.
-fn is_before_ring(relation: Relation, from_center: Vec3) -> bool
+#[tactic(auto, unfolding(crate::specs::parts::Stages::before_ring))]
+pub(crate) fn is_before_ring(relation: Relation, from_center: Vec3) -> bool
     ensures { result ≡ before_ring relation from_center }
 {
     let along = from_center.dot(relation.position);
     let reach = relation.radius_sum * relation.radius_sum * from_center.length_squared();
-    either_bool(along < 0.0, along * along > reach, false)
+    either(along < 0.0, along * along > reach, false)
 }
 
+#[tactic(auto, unfolding(crate::specs::parts::Stages::approach_of))]
 pub(crate) fn approach_of(
     relation: Relation,
     own: f32,
@@ -104,7 +91,7 @@ pub(crate) fn approach_of(
     let time = either(is_free, horizon, time_step);
     let center = relation.position.div(time);
     let is_before = is_before_ring(relation, relation.velocity.sub(center));
-    let is_cone = either_bool(is_free, !is_before, false);
+    let is_cone = either(is_free, !is_before, false);
     let number = either(is_cone, discriminant(relation), 0.0);
     Approach {
         center,
@@ -119,6 +106,7 @@ pub(crate) fn approach_of(
 // ---- the second stage
 
 // From the first root: of a cone, the relative velocity moved along the relative position for the time t.
+#[tactic(auto, unfolding(crate::specs::parts::Stages::direction_with))]
 pub(crate) fn direction_with(
     position: Vec3,
     velocity: Vec3,
@@ -142,13 +130,15 @@ pub(crate) fn direction_with(
 // ---- the third stage
 
 // Whether a reciprocal length is both finite and above 0.
+#[tactic(auto, unfolding(crate::specs::parts::Stages::usable))]
 fn is_usable(scale: f32) -> bool
     ensures { result ≡ usable scale }
 {
-    either_bool(is_finite(scale), scale > 0.0, false)
+    either(is_finite(scale), scale > 0.0, false)
 }
 
 // From the direction's length, the second root.
+#[tactic(auto, unfolding(crate::specs::parts::Stages::projected_with))]
 fn projected_with(
     velocity: Vec3,
     approach: Approach,
@@ -171,16 +161,17 @@ fn projected_with(
     let on_cone = velocity.sub(normal.mul(distance));
     let on_sphere = normal.mul(approach.radius).add(approach.center);
     let in_sphere = direction.square < approach.radius * approach.radius;
-    let in_free = either_bool(approach.is_cone, distance < 0.0, in_sphere);
+    let in_free = either(approach.is_cone, distance < 0.0, in_sphere);
     Projection {
         normal,
         value: either_vector(approach.is_cone, on_cone, on_sphere),
-        inside: either_bool(approach.is_free, in_free, true),
-        unseen: either_bool(is_usable, false, approach.is_free),
+        inside: either(approach.is_free, in_free, true),
+        unseen: either(is_usable, false, approach.is_free),
     }
 }
 
 // The half-space of velocities that avoid the neighbour, and whether that is unseen.
+#[tactic(auto, unfolding(crate::specs::parts::Stages::plane_with))]
 pub(crate) fn plane_with(
     own_velocity: Vec3,
     velocity: Vec3,

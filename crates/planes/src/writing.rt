@@ -1,18 +1,19 @@
 // The planes for the neighbours of a call, written to lent scratch. The definitions are in `specs/Planes.antt`.
-ghost use Rattle.std.specs.Prelude.{◌≡◌, ◌+◌, ◌*◌, ◌≤◌, ◌<◌, drop};
+ghost use Rattle.std.specs.Prelude.{◌≡◌, ◌+◌, ◌*◌, ◌<◌, drop};
 ghost use Rattle.requests.specs.Lent.{per_agent, agent_count};
 ghost use Rattle.planes.specs.Planes.{plane_of, planes_of_call, finite_plane, planes_made, planes_written};
 ghost use Rattle.planes.specs.parts.Writing.{noted, MadeWritten, Passed};
 
-use super::groups::{LANES, planes_of};
-use super::lent::neighbour_at;
+use super::groups::planes_of;
+use super::lent::{Group, neighbour_at};
 use super::neighbour::plane_for;
 use super::{Made, NeighbourPlane};
-use refusals::Found;
+use refusals::Refusal;
 use requests::{AGENT_NUMBERS, Request};
 use solver::Plane;
 use solver::lent::write_plane;
 use vectors::Vec3;
+use vectors::roots::LANES;
 
 // A finite number times 0 is a zero, and any other is a NaN, which no sum loses: one test tells it of all six.
 fn is_finite_plane(plane: Plane) -> bool
@@ -24,6 +25,7 @@ fn is_finite_plane(plane: Plane) -> bool
 }
 
 // The plane for the neighbour at `index`.
+#[tactic(auto, unfolding(crate::specs::Planes::plane_of))]
 fn plane_of(request: Request, neighbours: &[f32], index: usize) -> NeighbourPlane
     requires { index < agent_count neighbours.now }
     ensures { result ≡ plane_of request (drop (per_agent * index) neighbours.now) }
@@ -39,53 +41,40 @@ fn plane_of(request: Request, neighbours: &[f32], index: usize) -> NeighbourPlan
 }
 
 // What was found before, or else the neighbour at `index`, where it is unseen.
-fn noted(found: Found, unseen: bool, index: usize) -> Found
+fn noted(found: Option<usize>, unseen: bool, index: usize) -> Option<usize>
     ensures { result ≡ noted found unseen index }
 {
-    match found {
-        Found::At(earlier) => Found::At(earlier),
-        Found::Nothing => {
-            if unseen {
-                Found::At(index)
-            } else {
-                Found::Nothing
-            }
-        }
-    }
+    found.or(unseen.then_some(index))
 }
 
 // Writes the plane for the neighbour at `index`, where it is finite, and notes whether the neighbour is unseen.
-fn write_made(scratch: &mut [f32], index: usize, made: NeighbourPlane, unseen: Found) -> Made
+fn write_made(
+    scratch: &mut [f32],
+    index: usize,
+    made: NeighbourPlane,
+    unseen: Option<usize>,
+) -> Made
     ensures { MadeWritten index made unseen scratch.old scratch.new result }
 {
     if !is_finite_plane(made.plane) {
-        return Made::NotFinite(index);
+        return Err(Refusal::PlaneNotFinite { neighbour: index });
     }
     write_plane(scratch, index, made.plane);
-    Made::Finite(noted(unseen, made.unseen, index))
+    Ok(noted(unseen, made.unseen, index))
 }
 
-// Writes the planes for the `size` neighbours from `start` on, at most eight, up to the first that is not finite. One
-// alone has nobody to share its roots with.
-fn write_group(
-    scratch: &mut [f32],
-    request: Request,
-    neighbours: &[f32],
-    start: usize,
-    size: usize,
-    unseen: Found,
-) -> Made
-    requires { (0 < size) × (size ≤ 8) × (start + size ≤ agent_count neighbours.now) }
-    ensures { Passed request neighbours.now start (start + size) unseen scratch.old scratch.new result }
+// Writes the planes for the neighbours of a group up to the first that is not finite. One alone has nobody to share its
+// roots with.
+fn write_group(scratch: &mut [f32], request: Request, group: Group, unseen: Option<usize>) -> Made
+    ensures { Passed request group.entry.neighbours.now group.entry.start (group.entry.start + group.entry.size) unseen scratch.old scratch.new result }
 {
-    if size == 1 {
-        let made = plane_of(request, neighbours, start);
-        return write_made(scratch, start, made, unseen);
+    if group.size == 1 {
+        let made = plane_of(request, group.neighbours, group.start);
+        return write_made(scratch, group.start, made, unseen);
     }
-    let planes = planes_of(request, neighbours, start, size);
+    let planes = planes_of(request, group);
     let mut unseen = unseen;
-    let mut lane = 0;
-    while lane < size {
+    for lane in 0..group.size {
         let plane = Plane {
             point: Vec3 {
                 x: planes.point_x[lane],
@@ -102,17 +91,12 @@ fn write_group(
             plane,
             unseen: planes.unseen[lane],
         };
-        unseen = match write_made(scratch, start + lane, made, unseen) {
-            Made::Finite(found) => found,
-            Made::NotFinite(neighbour) => {
-                return Made::NotFinite(neighbour);
-            }
-        };
-        lane += 1;
+        unseen = write_made(scratch, group.start + lane, made, unseen)?;
     }
-    Made::Finite(unseen)
+    Ok(unseen)
 }
 
+// Request, neighbours and scratch are lent apart, as the velocity call is lent them.
 // Writes the plane for each neighbour to the beginning of scratch, each at its place, up to the first that is not finite. A
 // plane for which scratch has no room is not written.
 pub fn write_planes(scratch: &mut [f32], request: Request, neighbours: &[f32]) -> Made
@@ -120,18 +104,15 @@ pub fn write_planes(scratch: &mut [f32], request: Request, neighbours: &[f32]) -
     ensures scratch { scratch.new ≡ planes_written (planes_of_call request neighbours.now) scratch.old }
 {
     let count = neighbours.len() / AGENT_NUMBERS;
-    let mut unseen = Found::Nothing;
-    let mut index = 0;
-    while index < count {
-        let left = count - index;
-        let size = if left < LANES { left } else { LANES };
-        unseen = match write_group(scratch, request, neighbours, index, size, unseen) {
-            Made::Finite(found) => found,
-            Made::NotFinite(neighbour) => {
-                return Made::NotFinite(neighbour);
-            }
+    let mut unseen = None;
+    for start in (0..count).step_by(LANES) {
+        let size = (count - start).min(LANES);
+        let group = Group {
+            neighbours,
+            start,
+            size,
         };
-        index += size;
+        unseen = write_group(scratch, request, group, unseen)?;
     }
-    Made::Finite(unseen)
+    Ok(unseen)
 }

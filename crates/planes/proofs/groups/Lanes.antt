@@ -1,14 +1,17 @@
 -- Lanes that a loop fills one by one.
-use mathlib.Core.Path.{◌≡◌, ◌∙◌}
-use mathlib.Core.Bool.{false}
+use mathlib.Core.Path.{◌≡◌, sym}
+use mathlib.Core.Bool.{true}
 use mathlib.Core.List.{List}
 use mathlib.Core.Logic.{⊎_elim}
 use Prim.Native.Nat.{ℕ, ◌+◌, ◌≤◌, ◌<◌}
 use native.Mathlib.Nat.{eq-or-lt_of_le}
 use native.Mathlib.Omega.{arith}
-use lib.Ieee.{Float, nan}
-use lib.ListN.{length, get_or, set, length-set}
+use lib.Ieee.{Float, eq}
+use lib.ListN.{length, get_or, set}
 use lib.Seq.{get_or-set_same, get_or-set_other}
+use Rattle.vectors.specs.Number.{zero}
+use Rattle.vectors.specs.Root.{root}
+use Rattle.vectors.proofs.root.NotAbove.{zero-stays}
 use Rattle.planes.specs.declared.NeighbourPlane.{NeighbourPlane}
 use Rattle.planes.specs.declared.neighbour.Relation.{Relation}
 use Rattle.planes.specs.declared.stages.Approach.{Approach}
@@ -29,15 +32,16 @@ abbrev pub Eight : {A : Type 0} → List A → Type 0
 Eight xs = length xs ≡ 8
 
 module _ {A : Type 0} (xs : List A) (lane : ℕ) (x d : A) where
-  pub eight-set : Eight xs → Eight (set xs lane x)
-  eight-set eight = length-set xs lane x ∙ eight
-
   -- a lane that is set, and any other
   pub at-lane : Eight xs → lane < 8 → get_or (set xs lane x) lane d ≡ x
   at-lane eight below = get_or-set_same xs lane x d (omega (arith, eight, below))
 
   pub off-lane : (i : ℕ) → i < lane → get_or (set xs lane x) i d ≡ get_or xs i d
   off-lane i less = get_or-set_other xs lane i x d (λ is. omega (arith, is, less))
+
+-- a number that is a zero is its own root
+pub zero_root : (x : Float) → eq x zero ≡ true → root x ≡ x
+zero_root x is = sym (zero-stays x is)
 
 -- ---- eight relations
 
@@ -58,14 +62,11 @@ set-relation lanes lane new other = record {
 }
 
 module _ (lanes : Relations) (lane : ℕ) (new : Relation) (other : Float) where
-  pub eight-relation : Eight-relation lanes → Eight-relation (set-relation lanes lane new other)
-  eight-relation eight = (eight-set lanes.position_x lane new.position.x nan eight.0, eight-set lanes.position_y lane new.position.y nan eight.1, eight-set lanes.position_z lane new.position.z nan eight.2, eight-set lanes.velocity_x lane new.velocity.x nan eight.3, eight-set lanes.velocity_y lane new.velocity.y nan eight.4, eight-set lanes.velocity_z lane new.velocity.z nan eight.5, eight-set lanes.radius_sum lane new.radius_sum nan eight.6, eight-set lanes.responsibility lane other nan eight.7)
-
   pub relation-here : Eight-relation lanes → lane < 8 → relation_in (set-relation lanes lane new other) lane ≡ new
-  relation-here eight below = rw (at-lane lanes.position_x lane new.position.x nan eight.0 below, at-lane lanes.position_y lane new.position.y nan eight.1 below, at-lane lanes.position_z lane new.position.z nan eight.2 below, at-lane lanes.velocity_x lane new.velocity.x nan eight.3 below, at-lane lanes.velocity_y lane new.velocity.y nan eight.4 below, at-lane lanes.velocity_z lane new.velocity.z nan eight.5 below, at-lane lanes.radius_sum lane new.radius_sum nan eight.6 below)
+  relation-here eight below = let (e0, e1, e2, e3, e4, e5, e6, e7) = eight in simp at-lane
 
   pub relation-before : (i : ℕ) → i < lane → relation_in (set-relation lanes lane new other) i ≡ relation_in lanes i
-  relation-before i less = rw (off-lane lanes.position_x lane new.position.x nan i less, off-lane lanes.position_y lane new.position.y nan i less, off-lane lanes.position_z lane new.position.z nan i less, off-lane lanes.velocity_x lane new.velocity.x nan i less, off-lane lanes.velocity_y lane new.velocity.y nan i less, off-lane lanes.velocity_z lane new.velocity.z nan i less, off-lane lanes.radius_sum lane new.radius_sum nan i less)
+  relation-before i less = simp off-lane
 
 -- ---- eight approaches
 
@@ -86,14 +87,11 @@ set-approach lanes lane new = record {
 }
 
 module _ (lanes : Approaches) (lane : ℕ) (new : Approach) where
-  pub eight-approach : Eight-approach lanes → Eight-approach (set-approach lanes lane new)
-  eight-approach eight = (eight-set lanes.center_x lane new.center.x nan eight.0, eight-set lanes.center_y lane new.center.y nan eight.1, eight-set lanes.center_z lane new.center.z nan eight.2, eight-set lanes.radius lane new.radius nan eight.3, eight-set lanes.part lane new.part nan eight.4, eight-set lanes.is_free lane new.is_free false eight.5, eight-set lanes.is_cone lane new.is_cone false eight.6, eight-set lanes.number lane new.number nan eight.7)
-
   pub approach-here : Eight-approach lanes → lane < 8 → approach_in (set-approach lanes lane new) lane ≡ new
-  approach-here eight below = rw (at-lane lanes.center_x lane new.center.x nan eight.0 below, at-lane lanes.center_y lane new.center.y nan eight.1 below, at-lane lanes.center_z lane new.center.z nan eight.2 below, at-lane lanes.radius lane new.radius nan eight.3 below, at-lane lanes.part lane new.part nan eight.4 below, at-lane lanes.is_free lane new.is_free false eight.5 below, at-lane lanes.is_cone lane new.is_cone false eight.6 below, at-lane lanes.number lane new.number nan eight.7 below)
+  approach-here eight below = let (e0, e1, e2, e3, e4, e5, e6, e7) = eight in simp at-lane
 
   pub approach-before : (i : ℕ) → i < lane → approach_in (set-approach lanes lane new) i ≡ approach_in lanes i
-  approach-before i less = rw (off-lane lanes.center_x lane new.center.x nan i less, off-lane lanes.center_y lane new.center.y nan i less, off-lane lanes.center_z lane new.center.z nan i less, off-lane lanes.radius lane new.radius nan i less, off-lane lanes.part lane new.part nan i less, off-lane lanes.is_free lane new.is_free false i less, off-lane lanes.is_cone lane new.is_cone false i less, off-lane lanes.number lane new.number nan i less)
+  approach-before i less = simp off-lane
 
 -- ---- eight directions
 
@@ -110,14 +108,11 @@ set-direction lanes lane new = record {
 }
 
 module _ (lanes : Directions) (lane : ℕ) (new : Direction) where
-  pub eight-direction : Eight-direction lanes → Eight-direction (set-direction lanes lane new)
-  eight-direction eight = (eight-set lanes.x lane new.vector.x nan eight.0, eight-set lanes.y lane new.vector.y nan eight.1, eight-set lanes.z lane new.vector.z nan eight.2, eight-set lanes.square lane new.square nan eight.3)
-
   pub direction-here : Eight-direction lanes → lane < 8 → direction_in (set-direction lanes lane new) lane ≡ new
-  direction-here eight below = rw (at-lane lanes.x lane new.vector.x nan eight.0 below, at-lane lanes.y lane new.vector.y nan eight.1 below, at-lane lanes.z lane new.vector.z nan eight.2 below, at-lane lanes.square lane new.square nan eight.3 below)
+  direction-here eight below = let (e0, e1, e2, e3) = eight in simp at-lane
 
   pub direction-before : (i : ℕ) → i < lane → direction_in (set-direction lanes lane new) i ≡ direction_in lanes i
-  direction-before i less = rw (off-lane lanes.x lane new.vector.x nan i less, off-lane lanes.y lane new.vector.y nan i less, off-lane lanes.z lane new.vector.z nan i less, off-lane lanes.square lane new.square nan i less)
+  direction-before i less = simp off-lane
 
 -- ---- eight planes
 
@@ -137,43 +132,8 @@ set-plane lanes lane new = record {
 }
 
 module _ (lanes : Planes) (lane : ℕ) (new : NeighbourPlane) where
-  pub eight-plane : Eight-plane lanes → Eight-plane (set-plane lanes lane new)
-  eight-plane eight = (eight-set lanes.point_x lane new.plane.point.x nan eight.0, eight-set lanes.point_y lane new.plane.point.y nan eight.1, eight-set lanes.point_z lane new.plane.point.z nan eight.2, eight-set lanes.normal_x lane new.plane.normal.x nan eight.3, eight-set lanes.normal_y lane new.plane.normal.y nan eight.4, eight-set lanes.normal_z lane new.plane.normal.z nan eight.5, eight-set lanes.unseen lane new.unseen false eight.6)
-
   pub plane-here : Eight-plane lanes → lane < 8 → plane_in (set-plane lanes lane new) lane ≡ new
-  plane-here eight below = rw (at-lane lanes.point_x lane new.plane.point.x nan eight.0 below, at-lane lanes.point_y lane new.plane.point.y nan eight.1 below, at-lane lanes.point_z lane new.plane.point.z nan eight.2 below, at-lane lanes.normal_x lane new.plane.normal.x nan eight.3 below, at-lane lanes.normal_y lane new.plane.normal.y nan eight.4 below, at-lane lanes.normal_z lane new.plane.normal.z nan eight.5 below, at-lane lanes.unseen lane new.unseen false eight.6 below)
+  plane-here eight below = let (e0, e1, e2, e3, e4, e5, e6) = eight in simp at-lane
 
   pub plane-before : (i : ℕ) → i < lane → plane_in (set-plane lanes lane new) i ≡ plane_in lanes i
-  plane-before i less = rw (off-lane lanes.point_x lane new.plane.point.x nan i less, off-lane lanes.point_y lane new.plane.point.y nan i less, off-lane lanes.point_z lane new.plane.point.z nan i less, off-lane lanes.normal_x lane new.plane.normal.x nan i less, off-lane lanes.normal_y lane new.plane.normal.y nan i less, off-lane lanes.normal_z lane new.plane.normal.z nan i less, off-lane lanes.unseen lane new.unseen false i less)
-
--- ---- a turn of a loop that fills them
-
-abbrev pub Filled-approach : (ℕ → Approach) → Approaches → ℕ → Type 0
-Filled-approach f lanes lane = (lane ≤ 8) × Eight-approach lanes × EachBelow lane (λ i. approach_in lanes i ≡ f i)
-
-pub filled-approach : (f : ℕ → Approach) (lanes : Approaches) (lane : ℕ) (new : Approach) → lane < 8 → new ≡ f lane → Filled-approach f lanes lane → Filled-approach f (set-approach lanes lane new) (lane + 1)
-filled-approach f lanes lane new below is filled = (
-  omega (arith, below),
-  eight-approach lanes lane new filled.1,
-  one_more (λ i. approach_in (set-approach lanes lane new) i ≡ f i) lane (λ i less. approach-before lanes lane new i less ∙ filled.2 i less) (approach-here lanes lane new filled.1 below ∙ is),
-)
-
-abbrev pub Filled-direction : (ℕ → Direction) → Directions → ℕ → Type 0
-Filled-direction f lanes lane = (lane ≤ 8) × Eight-direction lanes × EachBelow lane (λ i. direction_in lanes i ≡ f i)
-
-pub filled-direction : (f : ℕ → Direction) (lanes : Directions) (lane : ℕ) (new : Direction) → lane < 8 → new ≡ f lane → Filled-direction f lanes lane → Filled-direction f (set-direction lanes lane new) (lane + 1)
-filled-direction f lanes lane new below is filled = (
-  omega (arith, below),
-  eight-direction lanes lane new filled.1,
-  one_more (λ i. direction_in (set-direction lanes lane new) i ≡ f i) lane (λ i less. direction-before lanes lane new i less ∙ filled.2 i less) (direction-here lanes lane new filled.1 below ∙ is),
-)
-
-abbrev pub Filled-plane : (ℕ → NeighbourPlane) → Planes → ℕ → Type 0
-Filled-plane f lanes lane = (lane ≤ 8) × Eight-plane lanes × EachBelow lane (λ i. plane_in lanes i ≡ f i)
-
-pub filled-plane : (f : ℕ → NeighbourPlane) (lanes : Planes) (lane : ℕ) (new : NeighbourPlane) → lane < 8 → new ≡ f lane → Filled-plane f lanes lane → Filled-plane f (set-plane lanes lane new) (lane + 1)
-filled-plane f lanes lane new below is filled = (
-  omega (arith, below),
-  eight-plane lanes lane new filled.1,
-  one_more (λ i. plane_in (set-plane lanes lane new) i ≡ f i) lane (λ i less. plane-before lanes lane new i less ∙ filled.2 i less) (plane-here lanes lane new filled.1 below ∙ is),
-)
+  plane-before i less = simp off-lane

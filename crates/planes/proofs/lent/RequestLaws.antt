@@ -2,28 +2,26 @@
 use mathlib.Core.Path.{◌≡◌, refl}
 use mathlib.Core.Bool.{Bool, true, false, cond}
 use mathlib.Core.List.{List}
-use Prim.Native.Nat.{ℕ}
-use native.Mathlib.Omega.{arith}
+use Rattle.std.specs.Prelude.{Some, None}
 use lib.Dec.{eqb}
 use lib.ListN.{length}
 use lib.Ieee.{Float}
 use Rattle.requests.specs.declared.Request.{Request}
-use Rattle.planes.specs.declared.lent.ReadRequest.TheVariants.{Is, BadLength}
 use Rattle.requests.specs.Request.{per_request}
 use Rattle.planes.specs.Lent.{request_at, read_request}
 
-pub not-read : (numbers : List Float) → read_request numbers ≡ BadLength → eqb (length numbers) per_request ≡ false
+pub not-read : (numbers : List Float) → read_request numbers ≡ None → eqb (length numbers) per_request ≡ false
 unfolding read_request
 not-read numbers = go (eqb (length numbers) per_request)
   where
-    go : (b : Bool) → cond b (Is (request_at numbers)) BadLength ≡ BadLength → b ≡ false
-    go true e = let z : ◌≡◌ {A = ℕ} 0 1 = cc in absurd (omega arith)
+    go : (b : Bool) → cond b (Some (request_at numbers)) None ≡ None → b ≡ false
+    go true e = cc
     go false e = refl
 
-pub is_read : (numbers : List Float) (asked : Request) → read_request numbers ≡ Is asked → (eqb (length numbers) per_request ≡ true) × (asked ≡ request_at numbers)
+pub is_read : (numbers : List Float) (asked : Request) → read_request numbers ≡ Some asked → (eqb (length numbers) per_request ≡ true) × (asked ≡ request_at numbers)
 unfolding read_request
 is_read numbers asked = go (eqb (length numbers) per_request)
   where
-    go : (b : Bool) → cond b (Is (request_at numbers)) BadLength ≡ Is asked → (b ≡ true) × (asked ≡ request_at numbers)
+    go : (b : Bool) → cond b (Some (request_at numbers)) None ≡ Some asked → (b ≡ true) × (asked ≡ request_at numbers)
     go true e = (refl, cc)
-    go false e = let z : ◌≡◌ {A = ℕ} 0 1 = cc in absurd (omega arith)
+    go false e = cc

@@ -2,8 +2,8 @@
 use mathlib.Core.Path.{◌≡◌, refl, sym}
 use mathlib.Core.Bool.{Bool, true, false, not, ◌&&◌, cond}
 use lib.Ieee.{Float}
+use Rattle.std.specs.Prelude.{Some, None}
 use Rattle.vectors.specs.declared.Vec3.{Vec3}
-use Rattle.vectors.specs.declared.Normalized.TheVariants.{Scaled, Zeros}
 use Rattle.vectors.specs.Number.{◌⊕◌, ◌⊘◌, ◌>ᶠ◌, zero, one, finite}
 use Rattle.vectors.specs.Vec3.{zero_vec, ◌-ᵥ◌, ◌*ᵥ◌, ◌/ᵥ◌, length_squared, normalize_or_zero, vector_of, is_zeros}
 use Rattle.vectors.specs.Root.{root}
@@ -30,11 +30,11 @@ scale_of v = one ⊘ root (length_squared v)
 
 normal-is : (v : Vec3) → cond (usable (scale_of v)) (v *ᵥ scale_of v) zero_vec ≡ vector_of (normalize_or_zero v)
 unfolding scale_of usable
-normal-is v = let s = scale_of v in rw (normalized-is v, recip-is v) (sym (over-cond vector_of (finite s && s >ᶠ zero) (Scaled (v *ᵥ s)) Zeros))
+normal-is v = let s = scale_of v in rw (normalized-is v, recip-is v) (sym (over-cond vector_of (finite s && s >ᶠ zero) (Some (v *ᵥ s)) None))
 
 unseen-is : (v : Vec3) → cond (usable (scale_of v)) false true ≡ is_zeros (normalize_or_zero v)
 unfolding scale_of usable
-unseen-is v = let s = scale_of v in rw (normalized-is v, recip-is v) (sym (over-cond is_zeros (finite s && s >ᶠ zero) (Scaled (v *ᵥ s)) Zeros))
+unseen-is v = let s = scale_of v in rw (normalized-is v, recip-is v) (sym (over-cond is_zeros (finite s && s >ᶠ zero) (Some (v *ᵥ s)) None))
 
 collision-normal-is : (v fallback : Vec3) → cond (usable (scale_of v)) (v *ᵥ scale_of v) fallback ≡ collision_normal v fallback
 unfolding scale_of usable collision_normal

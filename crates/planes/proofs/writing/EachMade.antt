@@ -8,14 +8,15 @@ use native.Mathlib.Omega.{arith}
 use lib.Ieee.{Float}
 use lib.ListN.{length, drop}
 use lib.Seq.{drop-drop}
-use Rattle.refusals.specs.declared.Found.{Found}
-use Rattle.refusals.specs.declared.Found.TheVariants.{At, Nothing}
 use Rattle.refusals.specs.Conditions.{first_bad}
+use Rattle.refusals.specs.Verdict.{refused_at}
 use Rattle.refusals.proofs.Conditions.{or_else, bad-append, first-of-one}
 use Rattle.requests.specs.declared.Request.{Request}
 use Rattle.requests.specs.Lent.{agent_count}
-use Rattle.planes.specs.declared.Made.TheVariants.{Finite, NotFinite}
+use Rattle.refusals.specs.declared.Refusal.{Refusal}
+use Rattle.refusals.specs.declared.Refusal.TheVariants.{PlaneNotFinite}
 use Rattle.planes.specs.Planes.{each_from, planes_of_call, first_unseen, bad_plane, made_of, planes_made}
+use Rattle.std.specs.Prelude.{Option, Some, None, Ok, Err}
 
 -- ---- the list
 
@@ -38,7 +39,7 @@ module _ {A : Type 0} (f : List Float → A) where
 
   module _ (bad : ℕ → A → Bool) where
     -- one more: it is the first only where there was none
-    pub found-more : (k : ℕ) (xs : List Float) → first_bad bad 0 (each_from f (k + 1) xs) ≡ or_else (first_bad bad 0 (each_from f k xs)) (cond (bad k (f (drop (8 * k) xs))) (At k) Nothing)
+    pub found-more : (k : ℕ) (xs : List Float) → first_bad bad 0 (each_from f (k + 1) xs) ≡ or_else (first_bad bad 0 (each_from f k xs)) (cond (bad k (f (drop (8 * k) xs))) (Some k) None)
     found-more k xs =
         let here : 0 + length (each_from f k xs) ≡ k = zero-add _ ∙ from-length k xs in
         ap (first_bad bad 0) (from_more k xs)
@@ -47,7 +48,7 @@ module _ {A : Type 0} (f : List Float → A) where
         ∙ ap (or_else (first_bad bad 0 (each_from f k xs))) (first-of-one bad k (f (drop (8 * k) xs)))
 
     -- it stays the first, however many more there are
-    pub found-kept : (more k : ℕ) (xs : List Float) {place : ℕ} → first_bad bad 0 (each_from f k xs) ≡ At place → first_bad bad 0 (each_from f (k + more) xs) ≡ At place
+    pub found-kept : (more k : ℕ) (xs : List Float) {place : ℕ} → first_bad bad 0 (each_from f k xs) ≡ Some place → first_bad bad 0 (each_from f (k + more) xs) ≡ Some place
     found-kept zero k xs is = ap (λ (n : ℕ). first_bad bad 0 (each_from f n xs)) (add-zero k) ∙ is
     found-kept (suc more) k xs is =
         let one : k + suc more ≡ k + more + 1 = omega arith in
@@ -60,20 +61,21 @@ planes-many request neighbours = from-length _ (agent_count neighbours) neighbou
 
 -- ---- what making the planes came to
 
-pub none_made : (found first unseen : Found) → Finite unseen ≡ made_of found first → (found ≡ Nothing) × (unseen ≡ first)
-none_made (At neighbour) first unseen e = let z : ◌≡◌ {A = ℕ} 0 1 = cc in absurd (omega arith)
-none_made Nothing first unseen e = (refl, cc)
+pub none_made : (found first unseen : Option ℕ) → Ok unseen ≡ made_of found first → (found ≡ None) × (unseen ≡ first)
+none_made (Some neighbour) first unseen e = cc
+none_made None first unseen e = (refl, cc)
 
-pub one-made : (found first : Found) (neighbour : ℕ) → NotFinite neighbour ≡ made_of found first → found ≡ At neighbour
-one-made (At k) first neighbour e = cc
-one-made Nothing first neighbour e = let z : ◌≡◌ {A = ℕ} 0 1 = cc in absurd (omega arith)
+-- a refusal is that of the plane that was found
+pub one-made : (found first : Option ℕ) (refusal : Refusal) → Err refusal ≡ made_of found first → (place : ℕ) × (found ≡ Some place) × (refusal ≡ PlaneNotFinite place)
+one-made (Some k) first refusal e = (k, refl, cc)
+one-made None first refusal e = cc
 
 -- of a call
 module _ (request : Request) (neighbours : List Float) where
-  pub made-finite : (unseen : Found) → Finite unseen ≡ planes_made request neighbours → (first_bad bad_plane 0 (planes_of_call request neighbours) ≡ Nothing) × (first_unseen request neighbours ≡ unseen)
+  pub made-finite : (unseen : Option ℕ) → Ok unseen ≡ planes_made request neighbours → (first_bad bad_plane 0 (planes_of_call request neighbours) ≡ None) × (first_unseen request neighbours ≡ unseen)
   unfolding planes_made
   made-finite unseen made = let (none, first) = none_made (first_bad bad_plane 0 (planes_of_call request neighbours)) (first_unseen request neighbours) unseen made in (none, sym first)
 
-  pub made-not-finite : (neighbour : ℕ) → NotFinite neighbour ≡ planes_made request neighbours → first_bad bad_plane 0 (planes_of_call request neighbours) ≡ At neighbour
+  pub made-not-finite : (refusal : Refusal) → Err refusal ≡ planes_made request neighbours → refused_at (first_bad bad_plane 0 (planes_of_call request neighbours)) PlaneNotFinite ≡ Err refusal
   unfolding planes_made
-  made-not-finite neighbour made = one-made (first_bad bad_plane 0 (planes_of_call request neighbours)) (first_unseen request neighbours) neighbour made
+  made-not-finite refusal made = let (place, found, is) = one-made (first_bad bad_plane 0 (planes_of_call request neighbours)) (first_unseen request neighbours) refusal made in ap (λ (f : Option ℕ). refused_at f PlaneNotFinite) found ∙ ap Err (sym is)

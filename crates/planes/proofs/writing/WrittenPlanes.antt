@@ -8,8 +8,6 @@ use native.Mathlib.Numerals.{add-one}
 use native.Mathlib.Omega.{arith}
 use lib.Ieee.{Float}
 use lib.ListN.{length, drop, length-append}
-use Rattle.refusals.specs.declared.Found.{Found}
-use Rattle.refusals.specs.declared.Found.TheVariants.{At, Nothing}
 use Rattle.refusals.specs.Conditions.{first_bad}
 use Rattle.refusals.proofs.Conditions.{first-here, first-later, first-none, no_place}
 use Rattle.solver.specs.declared.Plane.{Plane}
@@ -17,6 +15,7 @@ use Rattle.solver.specs.Lent.{with_plane, numbers_of_planes}
 use Rattle.solver.proofs.Written.{with-length}
 use Rattle.solver.proofs.LentPlanes.{flat-none, written_next}
 use Rattle.planes.specs.Planes.{finite_plane, bad_plane, written_from, planes_written}
+use Rattle.std.specs.Prelude.{Option, Some, None}
 
 -- ---- one plane, and those after it
 
@@ -48,9 +47,9 @@ planes-length ps s = written-length 0 ps s
 -- ---- one plane more, after the others
 
 -- as it was, where a plane before is not finite, and else the next
-abbrev pub unless : Found → List Float → List Float → List Float
-unless (At place) stopped next = stopped
-unless Nothing stopped next = next
+abbrev pub unless : Option ℕ → List Float → List Float → List Float
+unless (Some place) stopped next = stopped
+unless None stopped next = next
 
 abbrev More : ℕ → List Plane → Plane → List Float → Type 0
 More i ps p s =
@@ -81,7 +80,7 @@ planes-more ps k p s is =
 
 abbrev AllFrom : List Float → ℕ → List Plane → List Plane → Type 0
 AllFrom s k done ps =
-    length done ≡ k → first_bad bad_plane k ps ≡ Nothing → 6 * (k + length ps) ≤ length s
+    length done ≡ k → first_bad bad_plane k ps ≡ None → 6 * (k + length ps) ≤ length s
     → written_from k ps (numbers_of_planes done ++ drop (6 * k) s) ≡ numbers_of_planes (done ++ ps) ++ drop (6 * (k + length ps)) s
 
 all_from : (s : List Float) (k : ℕ) (done ps : List Plane) → AllFrom s k done ps
@@ -91,7 +90,7 @@ all_from s k done (p ∷ ps) = go (finite_plane p) refl (all_from s (k + 1) (don
     go : (b : Bool) → finite_plane p ≡ b → AllFrom s (k + 1) (done ++ p ∷ []) ps → AllFrom s k done (p ∷ ps)
     go true finite rest is none room =
         let more : length (done ++ p ∷ []) ≡ k + 1 = length-append done (p ∷ []) ∙ ap (λ (n : ℕ). n + 1) is in
-        let later : first_bad bad_plane (k + 1) ps ≡ Nothing = sym (first-later bad_plane k p ps (p ∷ ps) refl (ap not finite)) ∙ none in
+        let later : first_bad bad_plane (k + 1) ps ≡ None = sym (first-later bad_plane k p ps (p ∷ ps) refl (ap not finite)) ∙ none in
         let next : k + 1 + length ps ≡ k + suc (length ps) = omega arith in
         written_on k p ps _ finite
         ∙ ap (written_from (k + 1) ps) (written_next done k s p is (omega (arith, room)))
@@ -99,7 +98,7 @@ all_from s k done (p ∷ ps) = go (finite_plane p) refl (all_from s (k + 1) (don
         ∙ rw (append_assoc done (p ∷ []) ps, next)
     go false bad rest is none room = no_place (sym none ∙ first-here bad_plane k p ps (p ∷ ps) refl (ap not bad))
 
-pub all-written : (ps : List Plane) (s : List Float) → first_bad bad_plane 0 ps ≡ Nothing → 6 * length ps ≤ length s → planes_written ps s ≡ numbers_of_planes ps ++ drop (6 * length ps) s
+pub all-written : (ps : List Plane) (s : List Float) → first_bad bad_plane 0 ps ≡ None → 6 * length ps ≤ length s → planes_written ps s ≡ numbers_of_planes ps ++ drop (6 * length ps) s
 all-written ps s none room =
     let start : numbers_of_planes [] ++ drop (6 * 0) s ≡ s = ap (λ (xs : List Float). xs ++ s) flat-none in
     let all : 0 + length ps ≡ length ps = omega arith in

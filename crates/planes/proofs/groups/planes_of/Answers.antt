@@ -32,7 +32,7 @@ root_in xs ys lane is = ap (λ (zs : List Float). get_or zs lane nan) is ∙ ap 
 pub returns : goal.returns
 unfolding plane_of
 returns c lane h =
-    let below : lane < 8 = omega (arith, h, c.requires.1) in
+    let below : lane < 8 = omega (arith, h, c.args.group.few) in
     let stands = c.relations_of-relations.ensures lane h in
     c.planes_with.ensures lane below
     ∙ lane-plane c.args.request _ _ _ _ _ _ _ stands.0 stands.1 (c.approaches_of-approaches.ensures lane below) (root_in c.approaches_of-approaches.result.number _ lane c.first_roots-first_roots.ensures) (c.directions_with-directions.ensures lane below) (root_in c.directions_with-directions.result.square _ lane c.roots-lengths.ensures)

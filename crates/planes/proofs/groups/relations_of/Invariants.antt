@@ -1,5 +1,5 @@
 use mathlib.Core.Path.{◌≡◌}
-use Prim.Native.Nat.{◌-◌, ◌≤◌, ◌<◌}
+use Prim.Native.Nat.{◌<◌}
 use lib.Ieee.{nan}
 use lib.ListN.{get_or}
 use Rattle.planes.specs.Neighbour.{relation_of}
@@ -8,7 +8,4 @@ use Rattle.planes.proofs.groups.Lanes.{Eight-relation}
 use Rattle.planes.proofs.groups.relations_of.Given as goal
 
 abbrev pub invariant-loop-lane : goal.invariant-loop-lane
-invariant-loop-lane l = (l.lane ≤ 8) × Eight-relation l.lanes × EachBelow l.lane (λ i. i < l.size → (relation_in l.lanes i ≡ relation_of l.request.agent (neighbour_in l.neighbours l.start i)) × (get_or l.lanes.responsibility i nan ≡ (neighbour_in l.neighbours l.start i).responsibility))
-
-abbrev pub decreases-loop-lane : goal.decreases-loop-lane
-decreases-loop-lane l = 8 - l.lane
+invariant-loop-lane l = record { eight : Eight-relation l.lanes; filled : EachBelow l.lane (λ i. i < l.group.size → (relation_in l.lanes i ≡ relation_of l.request.agent (neighbour_in l.group.neighbours.now l.group.start i)) × (get_or l.lanes.responsibility i nan ≡ (neighbour_in l.group.neighbours.now l.group.start i).responsibility)) }
