@@ -10,12 +10,9 @@ use lib.Ieee.{Float}
 use Rattle.vectors.specs.Promise.{determined}
 use Rattle.vectors.specs.declared.Vec3.{Vec3}
 use Rattle.vectors.specs.Vec3.{finite_vec, plus_zeros}
-use Rattle.refusals.specs.declared.Found.{Found}
-use Rattle.refusals.specs.declared.Found.TheVariants.{At, Nothing}
 use Rattle.refusals.specs.declared.Refusal.TheVariants as refusal
-use Rattle.refusals.specs.declared.Verdict.{Verdict}
 use Rattle.refusals.specs.Conditions.{first_holding, is_found, some, marked, first_bad}
-use Rattle.refusals.specs.Verdict.{◌⊳◌, refused_if}
+use Rattle.refusals.specs.Verdict.{◌⊳◌, refused_if, Verdict}
 use Rattle.refusals.proofs.Conditions.{no_place}
 use Rattle.refusals.proofs.Verdicts.{said, Says, then, held-says, found-says}
 use Rattle.solver.specs.declared.Plane.{Plane}
@@ -23,7 +20,6 @@ use Rattle.solver.specs.declared.Outcome.{Outcome}
 use Rattle.solver.specs.declared.Outcome.TheVariants.{Feasible, Infeasible, BadClamp}
 use Rattle.solver.specs.Solve.{solve}
 use Rattle.requests.specs.declared.Request.{Request}
-use Rattle.requests.specs.declared.Reply.TheVariants.{Answered, Refused}
 use Rattle.requests.specs.Checks.{checks}
 use Rattle.requests.proofs.ReplyLaws.{refused_with, reply-says, numbered, unrefused}
 use Rattle.requests.proofs.checks.Says.{checks-say}
@@ -31,6 +27,7 @@ use Rattle.planes.specs.Planes.{planes_of_call, bad_plane, first_unseen}
 use Rattle.avoidance.specs.Velocity.{answered_with, outcome_reply, reply_of, planes_verdict, planned_reply, velocity_call}
 use Rattle.avoidance.specs.Conditions.{bad_clamp, velocity_conditions}
 use Rattle.avoidance.specs.Claims.{RefusedExactly, AnsweredExactly, ScratchUnread, SameCall}
+use Rattle.std.specs.Prelude.{Option, Some, None, Ok, Err}
 
 planes-say : (planes : List Plane) → Says (planes_verdict planes) ((6, some (marked bad_plane 0 planes)) ∷ [])
 unfolding planes_verdict
@@ -45,18 +42,18 @@ late-says clamp plane value =
     let unfinite = refused_if (not (finite_vec value)) refusal.NoVelocity in
     then (refused_if clamp (refusal.BadClamp plane)) unfinite ((18, clamp) ∷ []) _ (held-says clamp (refusal.BadClamp plane)) (held-says (not (finite_vec value)) refusal.NoVelocity)
 
-valued-says : (value : Vec3) (relaxed unseen : Found) → refused_with (answered_with value relaxed unseen) ≡ said (late_verdict false 0 value)
+valued-says : (value : Vec3) (relaxed unseen : Option ℕ) → refused_with (answered_with value relaxed unseen) ≡ said (late_verdict false 0 value)
 unfolding answered_with
 valued-says value relaxed unseen = go (finite_vec value)
   where
-    go : (b : Bool) → refused_with (cond b (Answered (record { velocity = plus_zeros value; relaxed = relaxed; unseen = unseen })) (Refused refusal.NoVelocity)) ≡ said (refused_if (not b) refusal.NoVelocity)
+    go : (b : Bool) → refused_with (cond b (Ok (record { velocity = plus_zeros value; relaxed = relaxed; unseen = unseen })) (Err refusal.NoVelocity)) ≡ said (refused_if (not b) refusal.NoVelocity)
     go true = refl
     go false = refl
 
-solution-says : (outcome : Outcome) (value : Vec3) (unseen : Found) → refused_with (outcome_reply outcome value unseen) ≡ first_holding ((18, bad_clamp outcome) ∷ (7, not (finite_vec value)) ∷ [])
+solution-says : (outcome : Outcome) (value : Vec3) (unseen : Option ℕ) → refused_with (outcome_reply outcome value unseen) ≡ first_holding ((18, bad_clamp outcome) ∷ (7, not (finite_vec value)) ∷ [])
 unfolding outcome_reply bad_clamp
-solution-says (Feasible best) value unseen = valued-says value Nothing unseen ∙ late-says false 0 value
-solution-says (Infeasible failure) value unseen = valued-says value (At failure.index) unseen ∙ late-says false 0 value
+solution-says (Feasible best) value unseen = valued-says value None unseen ∙ late-says false 0 value
+solution-says (Infeasible failure) value unseen = valued-says value (Some failure.index) unseen ∙ late-says false 0 value
 solution-says (BadClamp plane) value unseen = late-says true plane value
 
 -- the refusal is the one of the first condition that holds
@@ -76,12 +73,12 @@ refused-exactly request neighbours k (suc n) above =
     let (to, from) = numbered (velocity_call request neighbours k) n in
     (λ e. sym (by-conditions request neighbours k) ∙ to e, λ h. from (by-conditions request neighbours k ∙ h))
 
-none-holds : (cs : List (ℕ × Bool)) → (first_holding cs ≡ Nothing) ↔ (some cs ≡ false)
+none-holds : (cs : List (ℕ × Bool)) → (first_holding cs ≡ None) ↔ (some cs ≡ false)
 none-holds cs = go (first_holding cs)
   where
-    go : (found : Found) → (found ≡ Nothing) ↔ (is_found found ≡ false)
-    go (At n) = (λ e. no_place (sym e), λ e. let z : ◌≡◌ {A = ℕ} 0 1 = cc in absurd (omega arith))
-    go Nothing = (λ e. refl, λ e. refl)
+    go : (found : Option ℕ) → (found ≡ None) ↔ (is_found found ≡ false)
+    go (Some n) = (λ e. no_place (sym e), λ e. let z : ◌≡◌ {A = ℕ} 0 1 = cc in absurd (omega arith))
+    go None = (λ e. refl, λ e. refl)
 
 pub answered-exactly : AnsweredExactly
 answered-exactly request neighbours k =

@@ -11,8 +11,6 @@ use lib.Dec.{eqb}
 use lib.Ieee.{Float}
 use borrow.Author.Tests.{eqb-true}
 use Rattle.vectors.specs.Vec3.{finite_vec}
-use Rattle.refusals.specs.declared.Found.{Found}
-use Rattle.refusals.specs.declared.Found.TheVariants.{At, Nothing}
 use Rattle.refusals.specs.Conditions.{first_holding, some, marked}
 use Rattle.refusals.proofs.Conditions.{no_place, same_place, found_as, renumbered-holding, joined-holding}
 use Rattle.solver.specs.Solve.{solve}
@@ -25,6 +23,7 @@ use Rattle.avoidance.specs.Velocity.{velocity_call}
 use Rattle.avoidance.specs.Conditions.{bad_clamp, velocity_conditions, document_one_conditions, SameInputs}
 use Rattle.avoidance.specs.Claims.{SameInputsRefused}
 use Rattle.avoidance.proofs.Refusals.{refused-exactly}
+use Rattle.std.specs.Prelude.{Option, Some, None}
 
 -- the number that document 01 has for what is refused with a number
 abbrev pub document_one : ℕ → ℕ
@@ -48,25 +47,25 @@ only-18 n = go (eqb n 17) (eqb n 18) refl
 
 -- what was found has one of two numbers exactly where document 01's for it is the first of them
 module _ (old new : ℕ) (old-kept : document_one old ≡ old) (new-was : document_one new ≡ old) (only : (n : ℕ) → document_one n ≡ old → (n ≡ old) ⊎ (n ≡ new)) where
-  to-old : (found : Found) → (found ≡ At old) ⊎ (found ≡ At new) → found_as document_one found ≡ At old
-  to-old found (inl e) = ap (found_as document_one) e ∙ ap At old-kept
-  to-old found (inr e) = ap (found_as document_one) e ∙ ap At new-was
+  to-old : (found : Option ℕ) → (found ≡ Some old) ⊎ (found ≡ Some new) → found_as document_one found ≡ Some old
+  to-old found (inl e) = ap (found_as document_one) e ∙ ap Some old-kept
+  to-old found (inr e) = ap (found_as document_one) e ∙ ap Some new-was
 
-  either-at : (n : ℕ) → (n ≡ old) ⊎ (n ≡ new) → (At n ≡ At old) ⊎ (At n ≡ At new)
-  either-at n (inl e) = inl (ap At e)
-  either-at n (inr e) = inr (ap At e)
+  either-at : (n : ℕ) → (n ≡ old) ⊎ (n ≡ new) → (Some n ≡ Some old) ⊎ (Some n ≡ Some new)
+  either-at n (inl e) = inl (ap Some e)
+  either-at n (inr e) = inr (ap Some e)
 
-  from_old : (found : Found) → found_as document_one found ≡ At old → (found ≡ At old) ⊎ (found ≡ At new)
-  from_old (At n) e = either-at n (only n (same_place e))
-  from_old Nothing e = no_place e
+  from_old : (found : Option ℕ) → found_as document_one found ≡ Some old → (found ≡ Some old) ⊎ (found ≡ Some new)
+  from_old (Some n) e = either-at n (only n (same_place e))
+  from_old None e = no_place e
 
 -- an answer that is refused with what was found among the new conditions, where document 01's are these
-module _ (answer : ℕ) (found : Found) (conditions : List (ℕ × Bool)) (refused : (n : ℕ) → (answer ≡ suc n) ↔ (found ≡ At (suc n))) (same : first_holding conditions ≡ found_as document_one found) where
-  found-either : (old new : ℕ) → (answer ≡ suc old) ⊎ (answer ≡ suc new) → (found ≡ At (suc old)) ⊎ (found ≡ At (suc new))
+module _ (answer : ℕ) (found : Option ℕ) (conditions : List (ℕ × Bool)) (refused : (n : ℕ) → (answer ≡ suc n) ↔ (found ≡ Some (suc n))) (same : first_holding conditions ≡ found_as document_one found) where
+  found-either : (old new : ℕ) → (answer ≡ suc old) ⊎ (answer ≡ suc new) → (found ≡ Some (suc old)) ⊎ (found ≡ Some (suc new))
   found-either old new (inl e) = inl ((refused old).0 e)
   found-either old new (inr e) = inr ((refused new).0 e)
 
-  answered-either : (old new : ℕ) → (found ≡ At (suc old)) ⊎ (found ≡ At (suc new)) → (answer ≡ suc old) ⊎ (answer ≡ suc new)
+  answered-either : (old new : ℕ) → (found ≡ Some (suc old)) ⊎ (found ≡ Some (suc new)) → (answer ≡ suc old) ⊎ (answer ≡ suc new)
   answered-either old new (inl e) = inl ((refused old).1 e)
   answered-either old new (inr e) = inr ((refused new).1 e)
 

@@ -3,3 +3,4 @@ pub mod FitCalls
 pub mod Places
 pub mod Unseen
 pub mod CallLaws
+pub mod Cleared

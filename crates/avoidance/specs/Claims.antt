@@ -1,11 +1,10 @@
 -- What is proved of the velocity call, each statement under its name. The proofs are in `proofs/`.
-use Rattle.std.specs.Prelude.{ℕ, ◌*◌, ◌≤◌, ◌<◌, ◌≡◌, true, false, List, ◌↔◌, length, get_or, take, drop, replicate, Float}
+use Rattle.std.specs.Prelude.{ℕ, ◌*◌, ◌≤◌, ◌<◌, ◌≡◌, true, false, List, ◌↔◌, length, get_or, take, drop, replicate, Float, Some, None}
 use Rattle.std.specs.Float.{nan}
 use Rattle.std.specs.Float.Ieee.{eq}
 use Rattle.vectors.specs.declared.Vec3.{Vec3}
 use Rattle.vectors.specs.Number.{zero}
 use Rattle.vectors.specs.Vec3.{all_zero, finite_vec, IsBinary32}
-use Rattle.refusals.specs.declared.Found.TheVariants.{At, Nothing}
 use Rattle.refusals.specs.Conditions.{First, some, Lowest}
 use Rattle.solver.specs.declared.Plane.{Plane}
 use Rattle.solver.specs.declared.Optimum.{Optimum}
@@ -16,10 +15,9 @@ use Rattle.solver.specs.ThreeD.{three_d}
 use Rattle.solver.specs.Claims.{ComesTo, infeasible_at}
 use Rattle.requests.specs.declared.Request.{Request}
 use Rattle.requests.specs.declared.Asked.TheVariants.{Finite, InRange}
-use Rattle.requests.specs.declared.Reply.{Reply}
 use Rattle.requests.specs.Lent.{agent_count}
 use Rattle.requests.specs.Checks.{bad_number, call_numbers}
-use Rattle.requests.specs.Reply.{is_answered, number, place_of, velocity_of, relaxed_of, unseen_of}
+use Rattle.requests.specs.Reply.{is_answered, number, place_of, velocity_of, relaxed_of, unseen_of, Reply}
 use Rattle.planes.specs.Planes.{planes_of_call, bad_plane}
 use Rattle.planes.specs.Claims.{zero_normal}
 use Rattle.avoidance.specs.Velocity.{velocity_call, scratch_after}
@@ -164,7 +162,7 @@ NoMinusZero =
 abbrev pub RelaxedExactly : Type 0
 RelaxedExactly =
     (request : Request) (neighbours : List Float) (scratch_length : ℕ) → is_answered (velocity_call request neighbours scratch_length) ≡ true → (k : ℕ)
-    → (relaxed_of (velocity_call request neighbours scratch_length) ≡ At k)
+    → (relaxed_of (velocity_call request neighbours scratch_length) ≡ Some k)
     ↔ ((v : Vec3) × (three_d (planes_of_call request neighbours) request.max_speed (sought request) ≡ infeasible_at k v))
 
 -- ---- neighbours that are unseen: document 02's [6]. `ZeroNormal`, in the Claims.antt of planes, says which they are.
@@ -172,11 +170,11 @@ RelaxedExactly =
 -- Whom a reply names, of neighbours with these planes.
 pub record NamesUnseen (planes : List Plane) (reply : Reply) : Type 0 where
   -- an answer names a neighbour exactly where its plane has a zero normal and that of no lower one has
-  pub named : is_answered reply ≡ true → (neighbour : ℕ) (d : Plane) → (unseen_of reply ≡ At neighbour) ↔ Lowest zero_normal 0 planes d neighbour
+  pub named : is_answered reply ≡ true → (neighbour : ℕ) (d : Plane) → (unseen_of reply ≡ Some neighbour) ↔ Lowest zero_normal 0 planes d neighbour
   -- and none exactly where no plane has
-  pub none : is_answered reply ≡ true → (d : Plane) → (unseen_of reply ≡ Nothing) ↔ ((neighbour : ℕ) → neighbour < length planes → all_zero (get_or planes neighbour d).normal ≡ false)
+  pub none : is_answered reply ≡ true → (d : Plane) → (unseen_of reply ≡ None) ↔ ((neighbour : ℕ) → neighbour < length planes → all_zero (get_or planes neighbour d).normal ≡ false)
   -- a refusal names none
-  pub refused : is_answered reply ≡ false → unseen_of reply ≡ Nothing
+  pub refused : is_answered reply ≡ false → unseen_of reply ≡ None
 
 -- An answer names as unseen the lowest neighbour whose plane has a zero normal, and none exactly where there is none; a refusal names none.
 abbrev pub UnseenLowest : Type 0

@@ -1,9 +1,8 @@
 -- Document 01's worked examples marked P, in its order, each input beside what the document says comes of it. `WorkedExamples` in Claims.antt says that they hold.
-use Rattle.std.specs.Prelude.{ℕ, ◌≡◌, List, [], ◌∷◌, Float}
+use Rattle.std.specs.Prelude.{ℕ, ◌≡◌, List, [], ◌∷◌, Float, Some, None, Ok}
 use Rattle.vectors.specs.declared.Vec3.{Vec3}
 use Rattle.vectors.specs.Number.{of_word, to_word, zero, one}
 use Rattle.vectors.specs.Root.{root}
-use Rattle.refusals.specs.declared.Found.TheVariants.{At, Nothing}
 use Rattle.solver.specs.declared.Plane.{Plane}
 use Rattle.solver.specs.declared.Optimum.TheVariants.{Point}
 use Rattle.solver.specs.declared.Failure.{Failure}
@@ -12,10 +11,9 @@ use Rattle.solver.specs.Lent.{scratch_for}
 use Rattle.solver.specs.ThreeD.{three_d}
 use Rattle.solver.specs.FourD.{four_d, half}
 use Rattle.solver.specs.Examples.{minus_one, one_and_half, two, ten}
+use Rattle.requests.specs.Reply.{Reply}
 use Rattle.requests.specs.declared.Agent.{Agent}
 use Rattle.requests.specs.declared.Request.{Request}
-use Rattle.requests.specs.declared.Reply.{Reply}
-use Rattle.requests.specs.declared.Reply.TheVariants.{Answered}
 use Rattle.requests.specs.Lent.{agent_count}
 use Rattle.planes.specs.Planes.{planes_of_call}
 use Rattle.avoidance.specs.Velocity.{velocity_call}
@@ -79,13 +77,13 @@ failed_at index value = record { index = index; value = value }
 
 -- free, and relaxed from a plane, with every neighbour seen; free, with a neighbour that is unseen
 abbrev pub free : Vec3 → Reply
-free v = Answered (record { velocity = v; relaxed = Nothing; unseen = Nothing })
+free v = Ok (record { velocity = v; relaxed = None; unseen = None })
 
 abbrev pub relaxed_from : ℕ → Vec3 → Reply
-relaxed_from plane v = Answered (record { velocity = v; relaxed = At plane; unseen = Nothing })
+relaxed_from plane v = Ok (record { velocity = v; relaxed = Some plane; unseen = None })
 
 abbrev pub free_but : ℕ → Vec3 → Reply
-free_but neighbour v = Answered (record { velocity = v; relaxed = Nothing; unseen = At neighbour })
+free_but neighbour v = Ok (record { velocity = v; relaxed = None; unseen = Some neighbour })
 
 -- ---- requests and neighbours
 

@@ -7,25 +7,21 @@ use Prim.Native.Nat.{ℕ, ◌≤◌, ◌<◌}
 use lib.Ieee.{Float}
 use Rattle.vectors.specs.declared.Vec3.{Vec3}
 use Rattle.vectors.specs.Vec3.{finite_vec, plus_zeros}
-use Rattle.refusals.specs.declared.Found.{Found}
-use Rattle.refusals.specs.declared.Found.TheVariants.{At, Nothing}
 use Rattle.refusals.specs.declared.Refusal.TheVariants.{PlaneNotFinite, NoVelocity}
-use Rattle.refusals.specs.declared.Verdict.{Verdict}
 use Rattle.refusals.specs.Conditions.{first_bad}
-use Rattle.refusals.specs.Verdict.{settled_by, refused_at}
+use Rattle.refusals.specs.Verdict.{settled_by, refused_at, Verdict}
 use Rattle.solver.specs.declared.Outcome.{Outcome}
 use Rattle.solver.specs.declared.Outcome.TheVariants.{Feasible, Infeasible, BadClamp}
 use Rattle.solver.specs.Solve.{solve}
 use Rattle.requests.specs.declared.Request.{Request}
-use Rattle.requests.specs.declared.Reply.{Reply}
-use Rattle.requests.specs.declared.Reply.TheVariants.{Answered, Refused}
 use Rattle.requests.specs.Request.{preferred_place, max_speed_place}
 use Rattle.requests.specs.Checks.{most_neighbours, checks}
-use Rattle.requests.specs.Reply.{number, place_of}
+use Rattle.requests.specs.Reply.{number, place_of, Reply}
 use Rattle.requests.proofs.checks.CallNumbers.{FitRequest, FitNeighbours}
 use Rattle.requests.proofs.checks.FitChecks.{FitVerdict, fit-checks}
 use Rattle.planes.specs.Planes.{planes_of_call, bad_plane, first_unseen}
 use Rattle.avoidance.specs.Velocity.{answered_with, outcome_reply, reply_of, planes_verdict, planned_reply, velocity_call}
+use Rattle.std.specs.Prelude.{Option, Some, None, Ok, Err}
 
 pub data FitReply (reply : Reply) : Type 0 where
   is_answer : number reply ≡ 0 → FitReply reply
@@ -37,28 +33,28 @@ pub data FitReply (reply : Reply) : Type 0 where
 
 -- ---- what is answered
 
-checked-fit : (verdict : Verdict) (planned : Reply) → FitVerdict verdict → FitReply planned → FitReply (settled_by verdict Refused planned)
+checked-fit : (verdict : Verdict) (planned : Reply) → FitVerdict verdict → FitReply planned → FitReply (settled_by verdict Err planned)
 checked-fit _ planned FitVerdict.passes fit = fit
 checked-fit _ planned (FitVerdict.short_of needed) fit = short_of refl
 checked-fit _ planned (FitVerdict.far_preferred place low high) fit = far_preferred refl low high
 
-valued-fit : (value : Vec3) (relaxed unseen : Found) → FitReply (answered_with value relaxed unseen)
+valued-fit : (value : Vec3) (relaxed unseen : Option ℕ) → FitReply (answered_with value relaxed unseen)
 unfolding answered_with
 valued-fit value relaxed unseen = go (finite_vec value)
   where
-    go : (b : Bool) → FitReply (cond b (Answered (record { velocity = plus_zeros value; relaxed = relaxed; unseen = unseen })) (Refused NoVelocity))
+    go : (b : Bool) → FitReply (cond b (Ok (record { velocity = plus_zeros value; relaxed = relaxed; unseen = unseen })) (Err NoVelocity))
     go true = is_answer refl
     go false = no_velocity refl
 
-solved-fit : (outcome : Outcome) (value : Vec3) (unseen : Found) → FitReply (outcome_reply outcome value unseen)
+solved-fit : (outcome : Outcome) (value : Vec3) (unseen : Option ℕ) → FitReply (outcome_reply outcome value unseen)
 unfolding outcome_reply
-solved-fit (Feasible best) value unseen = valued-fit value Nothing unseen
-solved-fit (Infeasible failure) value unseen = valued-fit value (At failure.index) unseen
+solved-fit (Feasible best) value unseen = valued-fit value None unseen
+solved-fit (Infeasible failure) value unseen = valued-fit value (Some failure.index) unseen
 solved-fit (BadClamp plane) value unseen = bad_clamp refl
 
-planes-fit : (found : Found) (reply : Reply) → FitReply reply → FitReply (settled_by (refused_at found PlaneNotFinite) Refused reply)
-planes-fit (At neighbour) reply fit = plane_not_finite refl
-planes-fit Nothing reply fit = fit
+planes-fit : (found : Option ℕ) (reply : Reply) → FitReply reply → FitReply (settled_by (refused_at found PlaneNotFinite) Err reply)
+planes-fit (Some neighbour) reply fit = plane_not_finite refl
+planes-fit None reply fit = fit
 
 planned-fit : (request : Request) (neighbours : List Float) → FitReply (planned_reply request neighbours)
 unfolding planned_reply planes_verdict reply_of

@@ -11,15 +11,11 @@ use lib.Ieee.{Float, nan}
 use Rattle.vectors.specs.declared.Vec3.{Vec3}
 use Rattle.vectors.specs.Number.{zero}
 use Rattle.vectors.specs.Vec3.{finite_vec, plus_zeros}
-use Rattle.refusals.specs.declared.Found.{Found}
-use Rattle.refusals.specs.declared.Found.TheVariants.{At, Nothing}
 use Rattle.refusals.specs.declared.Refusal.{Refusal}
 use Rattle.refusals.specs.declared.Refusal.TheVariants as refusal
-use Rattle.refusals.specs.declared.Verdict.{Verdict}
-use Rattle.refusals.specs.declared.Verdict.TheVariants as verdict
 use Rattle.refusals.specs.Refusal as refusals
 use Rattle.refusals.specs.Conditions.{first_bad, Lowest}
-use Rattle.refusals.specs.Verdict.{settled_by, refused_at}
+use Rattle.refusals.specs.Verdict.{settled_by, refused_at, Verdict}
 use Rattle.refusals.proofs.Conditions.{found-lowest}
 use Rattle.refusals.proofs.Verdicts.{Gives, gives_found}
 use Rattle.solver.specs.declared.Plane.{Plane}
@@ -33,37 +29,36 @@ use Rattle.solver.proofs.LentPlanes.{flat-length}
 use Rattle.solver.proofs.Why.{clamps-exactly, solve-reports}
 use Rattle.requests.specs.declared.Request.{Request}
 use Rattle.requests.specs.declared.Asked.TheVariants.{Finite, InRange}
-use Rattle.requests.specs.declared.Reply.{Reply}
-use Rattle.requests.specs.declared.Reply.TheVariants.{Answered, Refused}
 use Rattle.requests.specs.Lent.{agent_count}
 use Rattle.requests.specs.Checks.{bad_number, call_numbers, checks}
-use Rattle.requests.specs.Reply.{number, place_of}
+use Rattle.requests.specs.Reply.{number, place_of, Reply}
 use Rattle.requests.proofs.ReplyLaws.{GivenBy, settled-gives}
 use Rattle.requests.proofs.checks.Says.{checks-give, lowest-number}
 use Rattle.planes.specs.Planes.{planes_of_call, bad_plane, first_unseen}
 use Rattle.planes.proofs.writing.EachMade.{planes-many}
 use Rattle.avoidance.specs.Velocity.{answered_with, outcome_reply, reply_of, planes_verdict, planned_reply, velocity_call, planned_scratch, scratch_after}
 use Rattle.avoidance.specs.Claims.{sought, Placed, PlacesByAnswer, ScratchLeft, ScratchByAnswer}
+use Rattle.std.specs.Prelude.{Option, Some, None, Ok, Err}
 
 -- ---- what holds of each refusal
 
--- of those that are given once the checks passed
-valued-give : (Q : Refusal → Type 0) (value : Vec3) (relaxed unseen : Found) → Q refusal.NoVelocity → GivenBy Q (answered_with value relaxed unseen)
+-- of those that are given once the checks are-passed
+valued-give : (Q : Refusal → Type 0) (value : Vec3) (relaxed unseen : Option ℕ) → Q refusal.NoVelocity → GivenBy Q (answered_with value relaxed unseen)
 unfolding answered_with
 valued-give Q value relaxed unseen none = go (finite_vec value)
   where
-    go : (b : Bool) → GivenBy Q (cond b (Answered (record { velocity = plus_zeros value; relaxed = relaxed; unseen = unseen })) (Refused refusal.NoVelocity))
+    go : (b : Bool) → GivenBy Q (cond b (Ok (record { velocity = plus_zeros value; relaxed = relaxed; unseen = unseen })) (Err refusal.NoVelocity))
     go true = tt
     go false = none
 
-outcome-gives : (Q : Refusal → Type 0) (outcome : Outcome) (value : Vec3) (unseen : Found) → ((plane : ℕ) → outcome ≡ BadClamp plane → Q (refusal.BadClamp plane)) → Q refusal.NoVelocity → GivenBy Q (outcome_reply outcome value unseen)
+outcome-gives : (Q : Refusal → Type 0) (outcome : Outcome) (value : Vec3) (unseen : Option ℕ) → ((plane : ℕ) → outcome ≡ BadClamp plane → Q (refusal.BadClamp plane)) → Q refusal.NoVelocity → GivenBy Q (outcome_reply outcome value unseen)
 unfolding outcome_reply
-outcome-gives Q (Feasible best) value unseen clamp none = valued-give Q value Nothing unseen none
-outcome-gives Q (Infeasible failure) value unseen clamp none = valued-give Q value (At failure.index) unseen none
+outcome-gives Q (Feasible best) value unseen clamp none = valued-give Q value None unseen none
+outcome-gives Q (Infeasible failure) value unseen clamp none = valued-give Q value (Some failure.index) unseen none
 outcome-gives Q (BadClamp plane) value unseen clamp none = clamp plane refl
 
 planned-gives : (Q : Refusal → Type 0) (request : Request) (neighbours : List Float)
-    → ((neighbour : ℕ) → first_bad bad_plane 0 (planes_of_call request neighbours) ≡ At neighbour → Q (refusal.PlaneNotFinite neighbour))
+    → ((neighbour : ℕ) → first_bad bad_plane 0 (planes_of_call request neighbours) ≡ Some neighbour → Q (refusal.PlaneNotFinite neighbour))
     → ((plane : ℕ) → (solve (planes_of_call request neighbours) request.max_speed request.preferred).outcome ≡ BadClamp plane → Q (refusal.BadClamp plane))
     → Q refusal.NoVelocity → GivenBy Q (planned_reply request neighbours)
 unfolding planned_reply planes_verdict reply_of
@@ -102,8 +97,8 @@ module _ (request : Request) (neighbours : List Float) where
       (clamps-exactly planes request.max_speed (sought request) plane).0 (sym (solve-reports planes request.max_speed request.preferred) ∙ e)
 
   replies : (reply : Reply) → GivenBy PlacedBy reply → PlaceBy (number reply) (place_of reply)
-  replies (Answered course) given = refl
-  replies (Refused r) given = given
+  replies (Ok course) given = refl
+  replies (Err r) given = given
 
   call-placed : (k : ℕ) → GivenBy PlacedBy (velocity_call request neighbours k)
   unfolding velocity_call
@@ -171,13 +166,13 @@ module _ (request : Request) (neighbours scratch : List Float) where
 
   planned-left : (reply : Reply) → GivenBy Late reply → planned_scratch reply many planes scratch ≡ left_by (number reply)
   unfolding planned_scratch
-  planned-left (Answered course) late = refl
-  planned-left (Refused r) (answered, cleared) = rw (answered, cleared)
+  planned-left (Ok course) late = refl
+  planned-left (Err r) (answered, cleared) = rw (answered, cleared)
 
   left : (v : Verdict) (reply : Reply) → Gives Early v → GivenBy Late reply
-      → settled_by v (λ r. scratch) (planned_scratch reply many planes scratch) ≡ left_by (number (settled_by v Refused reply))
-  left verdict.Passed reply early late = planned-left reply late
-  left (verdict.Refused r) reply (answered, cleared) late = rw (answered, cleared)
+      → settled_by v (λ r. scratch) (planned_scratch reply many planes scratch) ≡ left_by (number (settled_by v Err reply))
+  left (Ok _) reply early late = planned-left reply late
+  left (Err r) reply (answered, cleared) late = rw (answered, cleared)
 
   pub scratch-left : scratch_after request neighbours scratch ≡ left_by (number (velocity_call request neighbours (length scratch)))
   unfolding scratch_after velocity_call

@@ -1,0 +1,2 @@
+-- What private functions promise each other: nobody has to believe it.
+pub mod Velocity
