@@ -5,18 +5,18 @@
 -- record-length, file-length, whole_length: a record has 76 bytes, and a file has as many for each.
 -- bytes-more, words-length: the bytes of one part more, and of words there are four for each.
 -- file-passes: records that each pass are a file that does. passed-again: a file that passed is the file of its records.
+-- written: a buffer with some words' bytes. words-none, words-more, words-all: none, a word written after those before it, and all of a record's.
 -- file-none, file-more: no records have no bytes, and a record written after those before it is one record more.
 use mathlib.Core.Path.{◌≡◌, refl, sym, ap, ap₂, ◌∙◌}
 use mathlib.Core.List.{List, [], ◌∷◌, ◌++◌, append_assoc, append-nil}
 use Prim.Native.Nat.{ℕ, zero, suc, ◌+◌, ◌*◌, ◌/◌, ◌%◌, ◌^◌, ◌≤◌, ◌<◌}
 use native.Mathlib.Nat.{not-suc-le-zero, le_of_suc-le-suc, mul-suc, mul-zero, add_comm}
+use native.Mathlib.Numerals.{add-one}
 use native.Mathlib.Omega.{arith}
 use borrow.Author.Tests.{lt-ltb}
-use lib.ListN.{length, get_or, take, drop, length-append, length-drop}
-use lib.Seq.{take_all, take-add, take_at, drop_at, drop-drop}
-use Rattle.refusals.specs.declared.Verdict.{Verdict}
-use Rattle.refusals.specs.declared.Verdict.TheVariants.{Passed}
-use Rattle.refusals.specs.Verdict.{◌⊳◌}
+use lib.ListN.{length, get_or, take, drop, length-append, length-drop, take-append-drop}
+use lib.Seq.{take_all, take-add, take_at, drop_at, drop-drop, length-take-le}
+use Rattle.refusals.specs.Verdict.{Verdict, passed, ◌⊳◌}
 use Rattle.refusals.proofs.Verdicts.{both-passed}
 use Rattle.records.specs.declared.Record.{Record}
 use Rattle.records.specs.Record.{most_agents, per_record, blank}
@@ -168,7 +168,7 @@ bytes-of-file file multiple small =
 -- ---- files that pass
 
 pub file-passes : (rs : List Record) → length rs ≤ most_agents → Each WholeRecord rs
-    → ((k : ℕ) → k < length rs → record_verdict 0 (get_or rs k blank) ≡ Passed) → file_verdict (file_of rs) ≡ Passed
+    → ((k : ℕ) → k < length rs → record_verdict 0 (get_or rs k blank) ≡ passed) → file_verdict (file_of rs) ≡ passed
 unfolding file_verdict
 file-passes rs few whole passes =
     let long = whole_length rs whole in
@@ -176,13 +176,54 @@ file-passes rs few whole passes =
     ∙ ap (records_verdict 0) (file-back rs whole)
     ∙ all-passed 0 rs passes
 
-pub passed-again : (file : List ℕ) → file_verdict file ≡ Passed → Below 256 file → file_of (records_of file) ≡ file
+pub passed-again : (file : List ℕ) → file_verdict file ≡ passed → Below 256 file → file_of (records_of file) ≡ file
 unfolding file_verdict
 passed-again file e small =
     bytes-of-file file (whole_multiple (length file) (both-passed (whole_file (length file)) (records_verdict 0 (records_of file)) e).0) small
 
--- ---- a file written record by record, from the start of a buffer on
+-- ---- parts written into a buffer, one after another
 
+-- a part of so many bytes, after what stands before it
+written-after : (front own buffer : List ℕ) (n size : ℕ) → length front ≡ n
+    → take n (front ++ drop n buffer) ++ (own ++ drop (n + size) (front ++ drop n buffer)) ≡ (front ++ own) ++ drop (n + size) buffer
+written-after front own buffer n size long =
+    let rest : drop (n + size) (front ++ drop n buffer) ≡ drop (n + size) buffer =
+    sym (drop-drop size n (front ++ drop n buffer))
+    ∙ ap (drop size) (drop_at front (drop n buffer) n long)
+    ∙ drop-drop size n buffer in
+    rw (take_at front (drop n buffer) n long, rest) (sym (append_assoc front own (drop (n + size) buffer)))
+
+-- a buffer with the bytes of some words from `at` on
+pub written : List ℕ → ℕ → List ℕ → List ℕ
+written buffer at words = (take at buffer ++ bytes_of_words words) ++ drop (at + 4 * length words) buffer
+
+pub words-none : (buffer : List ℕ) (at : ℕ) → written buffer at [] ≡ buffer
+unfolding written bytes_of_parts
+words-none buffer at = let none : at + 0 ≡ at = omega arith in rw (append-nil (take at buffer), none) (take-append-drop at buffer)
+
+pub words-more : (buffer : List ℕ) (at : ℕ) (words : List ℕ) (i : ℕ) (now : List ℕ) → i < length words → at + 4 * length words ≤ length buffer → now ≡ written buffer at (take i words)
+    → take (at + 4 * i) now ++ (bytes_of_word (get_or words i 0) ++ drop (at + 4 * i + 4) now) ≡ written buffer at (take (i + 1) words)
+unfolding written
+words-more buffer at words i now there room is =
+    let bytes = bytes_of_words (take i words) in
+    let word = bytes_of_word (get_or words i 0) in
+    let front = take at buffer ++ bytes in
+    let many = length-take-le i words (omega arith) in
+    let long : length front ≡ at + 4 * i = length-append (take at buffer) bytes ∙ omega (arith, many, words-length (take i words), length-take-le at buffer (omega (arith, room))) in
+    let last : at + 4 * i + 4 ≡ at + 4 * length (take (i + 1) words) = omega (arith, length-take-le (i + 1) words (omega arith)) in
+    let more : bytes_of_words (take (i + 1) words) ≡ bytes ++ word = ap (λ (n : ℕ). bytes_of_words (take n words)) (add-one i) ∙ bytes-more bytes_of_word words i 0 there in
+    rw (is, many) (written-after front word buffer (at + 4 * i) 4 long ∙ ap₂ (λ (xs : List ℕ) (n : ℕ). xs ++ drop n buffer) (append_assoc (take at buffer) bytes word ∙ ap (λ (xs : List ℕ). take at buffer ++ xs) (sym more)) last)
+
+pub words-all : (buffer : List ℕ) (at : ℕ) (r : Record) (i : ℕ) → length r.words ≡ per_record → per_record ≤ i
+    → written buffer at (take i r.words) ≡ take at buffer ++ (bytes_of r ++ drop (at + record_bytes) buffer)
+unfolding written bytes_of
+words-all buffer at r i all past =
+    let last : at + 4 * length r.words ≡ at + record_bytes = omega arith in
+    rw (take_all i r.words (omega arith), last) (append_assoc (take at buffer) (bytes_of_words r.words) (drop (at + record_bytes) buffer))
+
+pub ruleset words_written = (words-none, words-more, words-all)
+
+-- a file, from the start of a buffer on
 pub file-none : file_of [] ≡ []
 unfolding bytes_of_parts
 file-none = refl
@@ -194,14 +235,8 @@ unfolding with_record
 file-more rs i d buffer there sized room =
     let front = file_of (take i rs) in
     let back = drop (record_bytes * i) buffer in
-    let own = bytes_of (get_or rs i d) in
     let long : length (front ++ back) ≡ length buffer = length-append front back ∙ omega (arith, length-drop (record_bytes * i) buffer, sized) in
     let next : record_bytes * i + record_bytes ≡ record_bytes * suc i = omega arith in
-    let rest : drop (record_bytes * i + record_bytes) (front ++ back) ≡ drop (record_bytes * suc i) buffer =
-    sym (drop-drop record_bytes (record_bytes * i) (front ++ back))
-    ∙ ap (drop record_bytes) (drop_at front back (record_bytes * i) sized)
-    ∙ drop-drop record_bytes (record_bytes * i) buffer
-    ∙ ap (λ (n : ℕ). drop n buffer) next in
-    let fits = lt-ltb i (length (front ++ back) / record_bytes) (omega (arith, long)) in
-    rw (fits, take_at front back (record_bytes * i) sized, rest, bytes-more bytes_of rs i d there)
-    (sym (append_assoc front own (drop (record_bytes * suc i) buffer)))
+    rw (lt-ltb i (length (front ++ back) / record_bytes) (omega (arith, long)))
+    (written-after front (bytes_of (get_or rs i d)) buffer (record_bytes * i) record_bytes sized
+    ∙ ap₂ (λ (bytes : List ℕ) (n : ℕ). bytes ++ drop n buffer) (sym (bytes-more bytes_of rs i d there)) next)

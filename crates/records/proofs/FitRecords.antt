@@ -6,17 +6,17 @@ use native.Mathlib.Omega.{arith}
 use lib.ListN.{length}
 use Rattle.vectors.specs.Vec3.{finite_vec}
 use Rattle.vectors.proofs.Finite.{finite-whole}
-use Rattle.refusals.specs.declared.Verdict.TheVariants.{Passed}
 use Rattle.requests.specs.declared.Kind.TheVariants.{NotNegative, Positive}
 use Rattle.requests.proofs.checks.CallNumbers.{Allowed, FitAgent}
+use Rattle.refusals.specs.Verdict.{passed}
 use Rattle.records.specs.declared.Record.{Record}
 use Rattle.records.specs.Record.{per_record, position_word, velocity_word, radius_word, responsibility_word, max_speed_word, horizon_word, fallback_word, margin_word, number_at, vector_from, max_speed_of, horizon_of, fallback_of, agent_of}
 use Rattle.records.specs.Checks.{word_kind, record_verdict}
 use Rattle.records.proofs.Passed.{passed-finite, passed-kind}
 
-module _ (r : Record) (passed : record_verdict 0 r ≡ Passed) (all : length r.words ≡ per_record) where
+module _ (r : Record) (passes : record_verdict 0 r ≡ passed) (all : length r.words ≡ per_record) where
   allowed : (place : ℕ) → place < margin_word → Allowed (word_kind place) (number_at r place)
-  allowed place h = (passed-finite r passed all place (omega arith) (λ e. omega arith), passed-kind r passed all place (omega arith))
+  allowed place h = (passed-finite r passes all place (omega arith) (λ e. omega arith), passed-kind r passes all place (omega arith))
 
   vector-finite : (place : ℕ) → place + 2 < margin_word → finite_vec (vector_from r place) ≡ true
   unfolding vector_from

@@ -1,5 +1,7 @@
 -- Laws that more than one proof cites, and what is proved of the definitions themselves.
+pub mod BadSteps
 pub mod Parts
+pub mod InTurn
 pub mod Within
 pub mod Passed
 pub mod Decoding

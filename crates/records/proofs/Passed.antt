@@ -7,13 +7,11 @@ use native.Mathlib.Nat.{not-suc-le-zero, le_of_suc-le-suc, zero-lt-suc, zero-add
 use native.Mathlib.Omega.{arith}
 use lib.ListN.{length, get_or}
 use borrow.Author.Tests.{ne_eqb, not-false}
+use Rattle.std.specs.Prelude.{None}
 use Rattle.vectors.specs.Number.{finite}
-use Rattle.refusals.specs.declared.Found.TheVariants.{Nothing}
 use Rattle.refusals.specs.declared.Refusal.TheVariants.{NotFinite, OutOfRange, BadFallback, BadMargin}
-use Rattle.refusals.specs.declared.Verdict.{Verdict}
-use Rattle.refusals.specs.declared.Verdict.TheVariants.{Passed}
 use Rattle.refusals.specs.Conditions.{first_bad}
-use Rattle.refusals.specs.Verdict.{◌⊳◌, refused_if, refused_at}
+use Rattle.refusals.specs.Verdict.{Verdict, passed, ◌⊳◌, refused_if, refused_at}
 use Rattle.refusals.proofs.Conditions.{none-bad}
 use Rattle.refusals.proofs.Verdicts.{both-passed, nothing-found, does-not-hold}
 use Rattle.requests.specs.declared.Asked.TheVariants.{Finite, InRange}
@@ -28,12 +26,12 @@ use Rattle.records.specs.Claims.{PassedFinite, PassedKind, PassedFallback}
 
 -- none of them finds anything
 pub record Fit (r : Record) : Type 0 where
-  pub margin : bad_margin r ≡ Nothing
-  pub all-finite : first_bad (bad_word Finite) 0 r.words ≡ Nothing
-  pub in-range : first_bad (bad_word InRange) 0 r.words ≡ Nothing
+  pub margin : bad_margin r ≡ None
+  pub all-finite : first_bad (bad_word Finite) 0 r.words ≡ None
+  pub in-range : first_bad (bad_word InRange) 0 r.words ≡ None
   pub fallback : bad_fallback (fallback_of r) ≡ false
 
-pub passed-fit : (start : ℕ) (r : Record) → record_verdict start r ≡ Passed → Fit r
+pub passed-fit : (start : ℕ) (r : Record) → record_verdict start r ≡ passed → Fit r
 unfolding record_verdict
 passed-fit start r e =
     let unfit = refused_if (bad_fallback (fallback_of r)) (BadFallback (start + fallback_word)) in
@@ -50,15 +48,15 @@ passed-fit start r e =
       fallback = does-not-hold (bad_fallback (fallback_of r)) (BadFallback (start + fallback_word)) fourth;
     }
 
-pub fit_passed : (start : ℕ) (r : Record) → Fit r → record_verdict start r ≡ Passed
+pub fit_passed : (start : ℕ) (r : Record) → Fit r → record_verdict start r ≡ passed
 unfolding record_verdict
 fit_passed start r fit = rw (fit.margin, fit.all-finite, fit.in-range, fit.fallback)
 
-pub place-free : (start : ℕ) (r : Record) → record_verdict start r ≡ Passed → record_verdict 0 r ≡ Passed
+pub place-free : (start : ℕ) (r : Record) → record_verdict start r ≡ passed → record_verdict 0 r ≡ passed
 place-free start r e = fit_passed 0 r (passed-fit start r e)
 
 -- where all records pass, each does, at its own place
-pub each-passed : (start : ℕ) (rs : List Record) (k : ℕ) → records_verdict start rs ≡ Passed → k < length rs → record_verdict (start + per_record * k) (get_or rs k blank) ≡ Passed
+pub each-passed : (start : ℕ) (rs : List Record) (k : ℕ) → records_verdict start rs ≡ passed → k < length rs → record_verdict (start + per_record * k) (get_or rs k blank) ≡ passed
 unfolding records_verdict
 each-passed start [] k e h = absurd (not-suc-le-zero h)
 each-passed start (r ∷ rs) zero e h =
@@ -70,7 +68,7 @@ each-passed start (r ∷ rs) (suc k) e h =
     ∙ each-passed (start + per_record) rs k (both-passed (record_verdict start r) (records_verdict (start + per_record) rs) e).1 (le_of_suc-le-suc h)
 
 -- and where each passes by itself, all do
-pub all-passed : (start : ℕ) (rs : List Record) → ((k : ℕ) → k < length rs → record_verdict 0 (get_or rs k blank) ≡ Passed) → records_verdict start rs ≡ Passed
+pub all-passed : (start : ℕ) (rs : List Record) → ((k : ℕ) → k < length rs → record_verdict 0 (get_or rs k blank) ≡ passed) → records_verdict start rs ≡ passed
 unfolding records_verdict
 all-passed start [] passes = refl
 all-passed start (r ∷ rs) passes =
@@ -82,15 +80,15 @@ all-passed start (r ∷ rs) passes =
 -- every number is finite; the margin word is no number
 pub passed-finite : PassedFinite
 unfolding bad_word number_at word_at
-passed-finite r passed all place h other =
-    let good = none-bad (bad_word Finite) 0 r.words (passed-fit 0 r passed).all-finite place 0 (omega arith) in
+passed-finite r passes all place h other =
+    let good = none-bad (bad_word Finite) 0 r.words (passed-fit 0 r passes).all-finite place 0 (omega arith) in
     not-false (finite (number_at r place)) (simp (zero-add, ne_eqb place margin_word other) at good)
 
 pub passed-kind : PassedKind
 unfolding bad_word number_at word_at
-passed-kind r passed all place h =
-    let good = none-bad (bad_word InRange) 0 r.words (passed-fit 0 r passed).in-range place 0 (omega arith) in
+passed-kind r passes all place h =
+    let good = none-bad (bad_word InRange) 0 r.words (passed-fit 0 r passes).in-range place 0 (omega arith) in
     simp zero-add at good
 
 pub passed-fallback : PassedFallback
-passed-fallback r passed = (passed-fit 0 r passed).fallback
+passed-fallback r passes = (passed-fit 0 r passes).fallback

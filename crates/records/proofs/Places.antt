@@ -9,15 +9,13 @@ use native.Mathlib.Omega.{arith}
 use lib.Dec.{leb, ltb, eqb}
 use lib.ListN.{length, get_or}
 use borrow.Author.Tests.{leb-false, eqb-true, eqb-false, not-true}
+use Rattle.std.specs.Prelude.{Some, None, Ok, Err}
 use Rattle.vectors.proofs.Truth.{both}
-use Rattle.refusals.specs.declared.Found.TheVariants.{At, Nothing}
 use Rattle.refusals.specs.declared.Refusal.{Refusal}
 use Rattle.refusals.specs.declared.Refusal.TheVariants.{NotFinite, OutOfRange, BadFallback, NoAgent, BadFile, BadMargin}
-use Rattle.refusals.specs.declared.Verdict.{Verdict}
-use Rattle.refusals.specs.declared.Verdict.TheVariants.{Passed, Refused}
 use Rattle.refusals.specs.Refusal.{number, place_of}
 use Rattle.refusals.specs.Conditions.{First, is_found, some, first_bad}
-use Rattle.refusals.specs.Verdict.{◌⊳◌, refused_if, refused_at}
+use Rattle.refusals.specs.Verdict.{Verdict, passed, ◌⊳◌, refused_if, refused_at}
 use Rattle.refusals.proofs.Conditions.{no_place, same_place, found-lowest}
 use Rattle.refusals.proofs.Verdicts.{Says, Gives, gives_then, gives-held, gives_found}
 use Rattle.requests.specs.declared.Asked.TheVariants.{Finite, InRange}
@@ -32,7 +30,7 @@ use Rattle.records.specs.Claims.{PlacedRecord, RecordPlaces, PlacedFile, FilePla
 use Rattle.records.proofs.Refusals.{record-says}
 
 -- refused where a test fails
-pub gives-tested : (Q : Refusal → Type 0) (passes : Bool) (why : Refusal) → Q why → Gives Q (cond passes Passed (Refused why))
+pub gives-tested : (Q : Refusal → Type 0) (passes : Bool) (why : Refusal) → Q why → Gives Q (cond passes passed (Err why))
 gives-tested Q true why q = tt
 gives-tested Q false why q = q
 
@@ -43,14 +41,14 @@ module _ (start : ℕ) (r : Record) where
   abbrev InRecord : Refusal → Type 0
   InRecord why = PlacedRecord start r (number why) (place_of why)
 
-  margin-placed : (place : ℕ) → bad_margin r ≡ At place → PlacedRecord start r 15 (start + place)
+  margin-placed : (place : ℕ) → bad_margin r ≡ Some place → PlacedRecord start r 15 (start + place)
   unfolding bad_margin
   margin-placed place =
       let margin = word_at r margin_word in
       go (leb margin 1) refl (eqb margin 0 && not (eqb (word_at r distance_word) 0)) refl
     where
       go : (small : Bool) → leb (word_at r margin_word) 1 ≡ small → (set : Bool) → eqb (word_at r margin_word) 0 && not (eqb (word_at r distance_word) 0) ≡ set
-          → cond small (cond set (At distance_word) Nothing) (At margin_word) ≡ At place → PlacedRecord start r 15 (start + place)
+          → cond small (cond set (Some distance_word) None) (Some margin_word) ≡ Some place → PlacedRecord start r 15 (start + place)
       go true is true is_set e =
           let (unmargined, set) = both (eqb (word_at r margin_word) 0) (not (eqb (word_at r distance_word) 0)) is_set in
           subst (λ (word : ℕ). PlacedRecord start r 15 (start + word)) (same_place e)
@@ -87,10 +85,10 @@ record FirstBad (start : ℕ) (rs : List Record) (n place : ℕ) : Type 0 where
   placed : PlacedRecord (start + per_record * index) (get_or rs index blank) n place
 
 -- what a record says that is refused, and one that passes
-refused_says : (start : ℕ) (r : Record) (why : Refusal) → record_verdict start r ≡ Refused why → First (number why) (record_conditions r)
+refused_says : (start : ℕ) (r : Record) (why : Refusal) → record_verdict start r ≡ Err why → First (number why) (record_conditions r)
 refused_says start r why is = sym (subst (λ (v : Verdict). Says v (record_conditions r)) is (record-says start r))
 
-passed-says : (start : ℕ) (r : Record) → record_verdict start r ≡ Passed → some (record_conditions r) ≡ false
+passed-says : (start : ℕ) (r : Record) → record_verdict start r ≡ passed → some (record_conditions r) ≡ false
 passed-says start r is = sym (ap is_found (subst (λ (v : Verdict). Says v (record_conditions r)) is (record-says start r)))
 
 InRecords : ℕ → List Record → Refusal → Type 0
@@ -102,8 +100,8 @@ records-give start [] = tt
 records-give start (r ∷ rs) = go (record_verdict start r) refl (records_verdict (start + per_record) rs) (records-give (start + per_record) rs)
   where
     go : (v : Verdict) → record_verdict start r ≡ v → (w : Verdict) → Gives (InRecords (start + per_record) rs) w → Gives (InRecords start (r ∷ rs)) (v ⊳ w)
-    go Passed is Passed later = tt
-    go Passed is (Refused why) later =
+    go (Ok _) is (Ok _) later = tt
+    go (Ok _) is (Err why) later =
         let next : start + per_record + per_record * later.index ≡ start + per_record * suc later.index = omega arith in
         record {
           index = suc later.index;
@@ -116,7 +114,7 @@ records-give start (r ∷ rs) = go (record_verdict start r) refl (records_verdic
         before : (index : ℕ) → ((i : ℕ) → i < index → some (record_conditions (get_or rs i blank)) ≡ false) → (i : ℕ) → i < suc index → some (record_conditions (get_or (r ∷ rs) i blank)) ≡ false
         before index earlier zero h = passed-says start r is
         before index earlier (suc i) h = earlier i (le_of_suc-le-suc h)
-    go (Refused why) is w later =
+    go (Err why) is w later =
         let here : start ≡ start + per_record * 0 = omega arith in
         record {
           index = 0;
@@ -137,13 +135,13 @@ file-gives file =
     let n = length file / record_bytes in
     let rs = records_of file in
     let passes = eqb (length file % record_bytes) 0 && leb n most_agents in
-    gives_then (InFile file) (cond passes Passed (Refused (BadFile (length file)))) (records_verdict 0 rs)
+    gives_then (InFile file) (cond passes passed (Err (BadFile (length file)))) (records_verdict 0 rs)
     (gives-tested (InFile file) passes (BadFile (length file)) PlacedFile.wrong-file)
     (go (records_verdict 0 rs) (records-give 0 rs))
   where
     go : (v : Verdict) → Gives (InRecords 0 (records_of file)) v → Gives (InFile file) v
-    go Passed first = tt
-    go (Refused why) first =
+    go (Ok _) first = tt
+    go (Err why) first =
         PlacedFile.in-record (number why) (place_of why)
         (record {
           index = first.index;
@@ -166,12 +164,12 @@ reader-places file index why is =
     let start = per_record * index in
     let own = record_at file index in
     let passes = eqb (length file % record_bytes) 0 && leb n most_agents in
-    let whole = cond passes Passed (Refused (BadFile (length file))) in
+    let whole = cond passes passed (Err (BadFile (length file))) in
     let Q : Refusal → Type 0 = λ why. PlacedStored file index (number why) (place_of why) in
     subst (Gives Q) is
     (gives_then Q whole (index_among n index ⊳ record_verdict start own) (gives-tested Q passes (BadFile (length file)) PlacedStored.wrong-file)
     (gives_then Q (index_among n index) (record_verdict start own) (gives-tested Q (ltb index n) (NoAgent index) PlacedStored.no_record) (go (record_verdict start own) (record-gives start own))))
   where
     go : (v : Verdict) → Gives (InRecord (per_record * index) (record_at file index)) v → Gives (λ why. PlacedStored file index (number why) (place_of why)) v
-    go Passed placed = tt
-    go (Refused why) placed = PlacedStored.in-record (number why) (place_of why) placed
+    go (Ok _) placed = tt
+    go (Err why) placed = PlacedStored.in-record (number why) (place_of why) placed

@@ -8,13 +8,11 @@ use native.Mathlib.Omega.{arith}
 use lib.Dec.{leb, ltb, eqb}
 use lib.ListN.{length}
 use borrow.Author.Tests.{ltb-true, ltb-false, leb-true, leb-false, lt-ltb, le-ltb, le-leb, lt-leb, ne_eqb}
+use Rattle.std.specs.Prelude.{Some, None, Ok, Err}
 use Rattle.vectors.proofs.Truth.{no_truth}
-use Rattle.refusals.specs.declared.Found.TheVariants.{At, Nothing}
 use Rattle.refusals.specs.declared.Refusal.TheVariants.{NotFinite, OutOfRange, BadFallback, NoAgent, BadFile, BadMargin}
-use Rattle.refusals.specs.declared.Verdict.{Verdict}
-use Rattle.refusals.specs.declared.Verdict.TheVariants.{Passed, Refused}
 use Rattle.refusals.specs.Conditions.{is_found, some, marked, first_bad}
-use Rattle.refusals.specs.Verdict.{◌⊳◌, refused_if, refused_at}
+use Rattle.refusals.specs.Verdict.{Verdict, ◌⊳◌, refused_if, refused_at}
 use Rattle.refusals.proofs.Conditions.{no_place, same_place}
 use Rattle.refusals.proofs.Verdicts.{not-answered, Says, then, held-says, tested-says, found-says, none-says}
 use Rattle.requests.specs.declared.Asked.{Asked}
@@ -50,7 +48,7 @@ margin-found : (r : Record) → is_found (bad_margin r) ≡ margin_wrong r
 unfolding bad_margin margin_wrong
 margin-found r = go (word_at r margin_word) (eqb (word_at r distance_word) 0)
   where
-    go : (m : ℕ) (b : Bool) → is_found (cond (leb m 1) (cond (eqb m 0 && not b) (At distance_word) Nothing) (At margin_word)) ≡ not (eqb m 0 || eqb m 1) || (eqb m 0 && not b)
+    go : (m : ℕ) (b : Bool) → is_found (cond (leb m 1) (cond (eqb m 0 && not b) (Some distance_word) None) (Some margin_word)) ≡ not (eqb m 0 || eqb m 1) || (eqb m 0 && not b)
     go zero true = refl
     go zero false = refl
     go (suc zero) b = refl
@@ -108,12 +106,12 @@ stored-says file index =
 -- ---- by number
 
 says-exactly : (v : Verdict) (cs : List (ℕ × Bool)) → Says v cs → Exactly v cs
-says-exactly Passed cs says = record {
+says-exactly (Ok _) cs says = record {
   refused = λ n more. (λ e. absurd (omega (arith, e, more)), λ h. no_place (says ∙ h));
   passed = (λ e. ap is_found (sym says), λ none. refl);
 }
-says-exactly (Refused why) cs says = record {
-  refused = λ n more. (λ e. sym says ∙ ap At e, λ h. same_place (says ∙ h));
+says-exactly (Err why) cs says = record {
+  refused = λ n more. (λ e. sym says ∙ ap Some e, λ h. same_place (says ∙ h));
   passed = (λ e. absurd (not-answered why e), λ none. no_truth (sym none ∙ ap is_found (sym says)));
 }
 

@@ -1,13 +1,9 @@
 -- The record checks 15, 3, 4 and 5.
-use Rattle.std.specs.Prelude.{ℕ, ◌+◌, Bool, not, ◌&&◌, ◌||◌, cond, leb, ltb, eqb}
+use Rattle.std.specs.Prelude.{ℕ, ◌+◌, Bool, not, ◌&&◌, ◌||◌, cond, leb, ltb, eqb, Option, Some, None, Err}
 use Rattle.vectors.specs.Number.{of_word, finite}
-use Rattle.refusals.specs.declared.Found.{Found}
-use Rattle.refusals.specs.declared.Found.TheVariants.{At, Nothing}
 use Rattle.refusals.specs.declared.Refusal.TheVariants.{NotFinite, OutOfRange, BadFallback, BadMargin, NoAgent}
-use Rattle.refusals.specs.declared.Verdict.{Verdict}
-use Rattle.refusals.specs.declared.Verdict.TheVariants.{Passed, Refused}
 use Rattle.refusals.specs.Conditions.{first_bad}
-use Rattle.refusals.specs.Verdict.{◌⊳◌, refused_if, refused_at}
+use Rattle.refusals.specs.Verdict.{Verdict, passed, ◌⊳◌, refused_if, refused_at}
 use Rattle.requests.specs.declared.Asked.{Asked}
 use Rattle.requests.specs.declared.Asked.TheVariants.{Finite, InRange}
 use Rattle.requests.specs.declared.Kind.{Kind}
@@ -18,14 +14,14 @@ use Rattle.records.specs.Record.{radius_word, responsibility_word, max_speed_wor
 
 -- one of so many has that index
 abbrev pub index_among : ℕ → ℕ → Verdict
-index_among count index = cond (ltb index count) Passed (Refused (NoAgent index))
+index_among count index = cond (ltb index count) passed (Err (NoAgent index))
 
 -- margin word not 0 or 1, or margin 0 with word 18 not all zero
-unfoldable pub bad_margin : Record → Found
+unfoldable pub bad_margin : Record → Option ℕ
 bad_margin r =
     cond (leb (word_at r margin_word) 1)
-    (cond (eqb (word_at r margin_word) 0 && not (eqb (word_at r distance_word) 0)) (At distance_word) Nothing)
-    (At margin_word)
+    (cond (eqb (word_at r margin_word) 0 && not (eqb (word_at r distance_word) 0)) (Some distance_word) None)
+    (Some margin_word)
 
 -- radius, responsibility and maximum speed are not below 0; the horizon is above 0
 unfoldable pub word_kind : ℕ → Kind

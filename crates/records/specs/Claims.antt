@@ -1,12 +1,11 @@
 -- What is proved of the definitions, each statement under its name. The proofs are in `proofs/`.
-use Rattle.std.specs.Prelude.{ℕ, ◌*◌, ◌+◌, ◌%◌, ◌^◌, ◌≤◌, ◌<◌, ◌≡◌, Bool, true, false, List, [], ◌∷◌, ◌++◌, ◌↔◌, length, get_or, take}
+use Rattle.std.specs.Prelude.{ℕ, ◌*◌, ◌+◌, ◌%◌, ◌^◌, ◌≤◌, ◌<◌, ◌≡◌, Bool, true, false, List, [], ◌∷◌, ◌++◌, ◌↔◌, length, get_or, take, Ok, Err}
 use Rattle.vectors.specs.declared.Vec3.{Vec3}
 use Rattle.vectors.specs.Number.{finite}
 use Rattle.vectors.specs.Vec3.{finite_vec, IsBinary32}
 use Rattle.refusals.specs.declared.Refusal.{Refusal}
-use Rattle.refusals.specs.declared.Verdict.{Verdict}
-use Rattle.refusals.specs.declared.Verdict.TheVariants.{Passed, Refused}
 use Rattle.refusals.specs.Refusal.{number, place_of}
+use Rattle.refusals.specs.Verdict.{Verdict, passed}
 use Rattle.refusals.specs.Conditions.{First, some, Lowest}
 use Rattle.requests.specs.declared.Asked.TheVariants.{Finite, InRange}
 use Rattle.requests.specs.Checks.{outside, bad_fallback}
@@ -21,8 +20,8 @@ use Rattle.records.specs.Conditions.{record_conditions, file_conditions, reader_
 
 -- the number that checks refuse with, and 0 where they pass
 abbrev pub number_of : Verdict → ℕ
-number_of Passed = 0
-number_of (Refused why) = number why
+number_of (Ok _) = 0
+number_of (Err why) = number why
 
 -- checks refuse with n exactly when n's condition is the first that holds, and pass exactly when none holds
 pub record Exactly (checks : Verdict) (conditions : List (ℕ × Bool)) : Type 0 where
@@ -56,7 +55,7 @@ pub data PlacedRecord (start : ℕ) (r : Record) : (number place : ℕ) → Type
 
 -- The place of a record's refusal is its bad word's number: 17 or 18 for 15, the lowest for 3 and 4, 13 for 5.
 abbrev pub RecordPlaces : Type 0
-RecordPlaces = (start : ℕ) (r : Record) (why : Refusal) → record_verdict start r ≡ Refused why → PlacedRecord start r (number why) (place_of why)
+RecordPlaces = (start : ℕ) (r : Record) (why : Refusal) → record_verdict start r ≡ Err why → PlacedRecord start r (number why) (place_of why)
 
 -- the first bad record decides: those before it have no fault, the number is that of its own first fault, and the place is its word's, plus 19 for each record before it
 pub record FirstBadRecord (rs : List Record) (number place : ℕ) : Type 0 where
@@ -72,7 +71,7 @@ pub data PlacedFile (file : List ℕ) : (number place : ℕ) → Type 0 where
 
 -- The place of a file's refusal is its length in bytes for 14; else it is that of the first bad record.
 abbrev pub FilePlaces : Type 0
-FilePlaces = (file : List ℕ) (why : Refusal) → file_verdict file ≡ Refused why → PlacedFile file (number why) (place_of why)
+FilePlaces = (file : List ℕ) (why : Refusal) → file_verdict file ≡ Err why → PlacedFile file (number why) (place_of why)
 
 pub data PlacedStored (file : List ℕ) (index : ℕ) : (number place : ℕ) → Type 0 where
   wrong-file : PlacedStored file index 14 (length file)
@@ -81,37 +80,37 @@ pub data PlacedStored (file : List ℕ) (index : ℕ) : (number place : ℕ) →
 
 -- The place of a reader's refusal is the file's length in bytes for 14, the index for 8, and else that of its record, as in the whole file.
 abbrev pub ReaderPlaces : Type 0
-ReaderPlaces = (file : List ℕ) (index : ℕ) (why : Refusal) → stored_verdict file index ≡ Refused why → PlacedStored file index (number why) (place_of why)
+ReaderPlaces = (file : List ℕ) (index : ℕ) (why : Refusal) → stored_verdict file index ≡ Err why → PlacedStored file index (number why) (place_of why)
 
 -- ---- a record that passed
 
 -- Every number of a record that passed is finite; the margin word is no number.
 abbrev pub PassedFinite : Type 0
 PassedFinite =
-    (r : Record) → record_verdict 0 r ≡ Passed → length r.words ≡ per_record
+    (r : Record) → record_verdict 0 r ≡ passed → length r.words ≡ per_record
     → (place : ℕ) → place < per_record → (place ≡ margin_word → ⊥) → finite (number_at r place) ≡ true
 
 -- Each of its numbers is in its range.
 abbrev pub PassedKind : Type 0
 PassedKind =
-    (r : Record) → record_verdict 0 r ≡ Passed → length r.words ≡ per_record
+    (r : Record) → record_verdict 0 r ≡ passed → length r.words ≡ per_record
     → (place : ℕ) → place < per_record → outside (word_kind place) (number_at r place) ≡ false
 
 -- Its fallback is a direction.
 abbrev pub PassedFallback : Type 0
-PassedFallback = (r : Record) → record_verdict 0 r ≡ Passed → bad_fallback (fallback_of r) ≡ false
+PassedFallback = (r : Record) → record_verdict 0 r ≡ passed → bad_fallback (fallback_of r) ≡ false
 
 -- It still passes with another goal that is finite.
 abbrev pub GoalPasses : Type 0
 GoalPasses =
-    (r : Record) (goal : Vec3) → record_verdict 0 r ≡ Passed → finite_vec goal ≡ true → IsBinary32 goal → record_verdict 0 (with_goal goal r) ≡ Passed
+    (r : Record) (goal : Vec3) → record_verdict 0 r ≡ passed → finite_vec goal ≡ true → IsBinary32 goal → record_verdict 0 (with_goal goal r) ≡ passed
 
 -- It still passes at another position and with another velocity that are finite.
 abbrev pub MovedPasses : Type 0
 MovedPasses =
-    (r : Record) (position velocity : Vec3) → record_verdict 0 r ≡ Passed
+    (r : Record) (position velocity : Vec3) → record_verdict 0 r ≡ passed
     → finite_vec position ≡ true → IsBinary32 position → finite_vec velocity ≡ true → IsBinary32 velocity
-    → record_verdict 0 (moved_to r position velocity) ≡ Passed
+    → record_verdict 0 (moved_to r position velocity) ≡ passed
 
 -- ---- encoding and decoding undo each other
 
@@ -158,5 +157,5 @@ BytesOfFile = (file : List ℕ) → length file % record_bytes ≡ 0 → Below 2
 -- Of a file that passes, a reader hands out the record that stands at that index.
 abbrev pub ReaderDecoded : Type 0
 ReaderDecoded =
-    (file : List ℕ) (index : ℕ) → file_verdict file ≡ Passed → index < length (records_of file)
-    → handed_at file index ≡ record { verdict = Passed; stored = get_or (records_of file) index blank }
+    (file : List ℕ) (index : ℕ) → file_verdict file ≡ passed → index < length (records_of file)
+    → handed_at file index ≡ Ok (get_or (records_of file) index blank)

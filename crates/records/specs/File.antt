@@ -1,13 +1,11 @@
 -- The fleet file: records of 76 bytes, each word little-endian, no header.
-use Rattle.std.specs.Prelude.{ℕ, zero, suc, ◌+◌, ◌-◌, ◌*◌, ◌/◌, ◌%◌, ◌&&◌, cond, List, [], ◌∷◌, ◌++◌, leb, ltb, eqb, length, get_or, take, drop, replicate}
+use Rattle.std.specs.Prelude.{ℕ, zero, suc, ◌+◌, ◌*◌, ◌/◌, ◌%◌, ◌&&◌, cond, List, [], ◌∷◌, ◌++◌, leb, ltb, eqb, length, get_or, take, drop, Result, Ok, Err}
+use Rattle.arrayvec.specs.ArrayVec.{ArrayVec}
 use Rattle.refusals.specs.declared.Refusal.{Refusal}
 use Rattle.refusals.specs.declared.Refusal.TheVariants.{BadFile}
-use Rattle.refusals.specs.declared.Verdict.{Verdict}
-use Rattle.refusals.specs.declared.Verdict.TheVariants.{Passed, Refused}
-use Rattle.refusals.specs.Verdict.{◌⊳◌, settled_by}
+use Rattle.refusals.specs.Verdict.{Verdict, passed, ◌⊳◌, settled_by}
 use Rattle.records.specs.declared.Record.{Record}
-use Rattle.records.specs.declared.Decoded.{Decoded}
-use Rattle.records.specs.Record.{most_agents, per_record, blank}
+use Rattle.records.specs.Record.{most_agents, per_record}
 use Rattle.records.specs.Checks.{record_verdict}
 
 -- the bytes of a record
@@ -41,11 +39,11 @@ records_of file = records_in (length file / record_bytes) file
 
 -- a multiple of 76 bytes, and at most 64 records
 unfoldable pub whole_file : ℕ → Verdict
-whole_file bytes = cond (eqb (bytes % record_bytes) 0 && leb (bytes / record_bytes) most_agents) Passed (Refused (BadFile bytes))
+whole_file bytes = cond (eqb (bytes % record_bytes) 0 && leb (bytes / record_bytes) most_agents) passed (Err (BadFile bytes))
 
 -- the first bad record decides; word 0 of the first one is at the place `start`
 unfoldable pub records_verdict : ℕ → List Record → Verdict
-records_verdict start [] = Passed
+records_verdict start [] = passed
 records_verdict start (r ∷ rs) = record_verdict start r ⊳ records_verdict (start + per_record) rs
 
 unfoldable pub file_verdict : List ℕ → Verdict
@@ -53,21 +51,18 @@ file_verdict file = whole_file (length file) ⊳ records_verdict 0 (records_of f
 
 -- ---- what a file holds
 
--- records, and blank ones after them
-abbrev pub filled : List Record → List Record
-filled rs = rs ++ replicate (most_agents - length rs) blank
+-- its records, or why it is refused
+abbrev pub Decoded : Type 0
+Decoded = Result (ArrayVec Record) Refusal
 
-unfoldable pub decoded_as : List Record → Decoded
-decoded_as rs = record { verdict = Passed; count = length rs; records = filled rs }
-
-unfoldable pub undecoded : Refusal → Decoded
-undecoded refusal = record { verdict = Refused refusal; count = 0; records = replicate most_agents blank }
+abbrev pub decoded_as : List Record → Decoded
+decoded_as rs = Ok (record { items = rs })
 
 unfoldable pub decoded_records : List ℕ → Decoded
-decoded_records file = settled_by (records_verdict 0 (records_of file)) undecoded (decoded_as (records_of file))
+decoded_records file = settled_by (records_verdict 0 (records_of file)) Err (decoded_as (records_of file))
 
 unfoldable pub decoded : List ℕ → Decoded
-decoded file = settled_by (file_verdict file) undecoded (decoded_as (records_of file))
+decoded file = settled_by (file_verdict file) Err (decoded_as (records_of file))
 
 -- ---- records as bytes
 

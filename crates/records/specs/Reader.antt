@@ -1,14 +1,11 @@
 -- A reader over a lent fleet file, which hands out one record at a time, by index.
-use Rattle.std.specs.Prelude.{ℕ, ◌*◌, ◌/◌, List, length, drop}
+use Rattle.std.specs.Prelude.{ℕ, ◌*◌, ◌/◌, List, length, drop, Result, Ok, Err}
 use Rattle.std.specs.Borrow.{Bor}
 use Rattle.refusals.specs.declared.Refusal.{Refusal}
-use Rattle.refusals.specs.declared.Verdict.{Verdict}
-use Rattle.refusals.specs.declared.Verdict.TheVariants.{Passed, Refused}
-use Rattle.refusals.specs.Verdict.{◌⊳◌, settled_by}
+use Rattle.refusals.specs.Verdict.{Verdict, ◌⊳◌, settled_by}
 use Rattle.records.specs.declared.Record.{Record}
 use Rattle.records.specs.declared.RecordReader.{RecordReader}
-use Rattle.records.specs.declared.Handed.{Handed}
-use Rattle.records.specs.Record.{per_record, blank}
+use Rattle.records.specs.Record.{per_record}
 use Rattle.records.specs.Checks.{index_among, record_verdict}
 use Rattle.records.specs.File.{record_bytes, record_in, whole_file}
 
@@ -27,9 +24,9 @@ stored_verdict file index =
     ⊳ index_among (length file / record_bytes) index
     ⊳ record_verdict (per_record * index) (record_at file index)
 
-unfoldable pub withheld : Refusal → Handed
-withheld refusal = record { verdict = Refused refusal; stored = blank }
+-- what a reader hands out: the record, or why it is refused
+abbrev pub Handed : Type 0
+Handed = Result Record Refusal
 
--- the record where the checks passed, and a blank one where they refused it
 unfoldable pub handed_at : List ℕ → ℕ → Handed
-handed_at file index = settled_by (stored_verdict file index) withheld (record { verdict = Passed; stored = record_at file index })
+handed_at file index = settled_by (stored_verdict file index) Err (Ok (record_at file index))

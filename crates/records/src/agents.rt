@@ -1,29 +1,19 @@
 // A stored agent: its 19 words read as numbers, and the words that a tick changes. The definitions are in
 // `specs/Record.antt`.
-ghost use Rattle.std.specs.Prelude.{◌≡◌, ◌+◌, ◌<◌, min};
-ghost use Rattle.records.specs.Record.{per_record, most_agents, blank, number_at, vector_from, with_vector, position_of, radius_of, goal_of, max_speed_of, horizon_of, fallback_of, agent_of, with_goal, moved_to};
+ghost use Rattle.std.specs.Prelude.{◌≡◌, ◌+◌, ◌<◌};
+ghost use Rattle.records.specs.Record.{per_record, blank, number_at, vector_from, with_vector, position_of, radius_of, goal_of, max_speed_of, horizon_of, fallback_of, agent_of, with_goal, moved_to};
 
 use super::{
-    FALLBACK_WORD, GOAL_WORD, HORIZON_WORD, MAX_SPEED_WORD, MOST_AGENTS, POSITION_WORD,
-    RADIUS_WORD, RECORD_WORDS, RESPONSIBILITY_WORD, Record, VELOCITY_WORD,
+    FALLBACK_WORD, GOAL_WORD, HORIZON_WORD, MAX_SPEED_WORD, POSITION_WORD, RADIUS_WORD,
+    RECORD_WORDS, RESPONSIBILITY_WORD, Record, VELOCITY_WORD,
 };
 use requests::Agent;
 use vectors::Vec3;
 use vectors::number::{from_word, to_word};
 
-// A count of agents: the nearest that there can be.
-pub fn in_range(count: usize) -> usize
-    ensures { result ≡ min count most_agents }
-{
-    if MOST_AGENTS < count {
-        MOST_AGENTS
-    } else {
-        count
-    }
-}
-
 impl Record {
-    // What stands where there is no agent.
+    // What stands where there is no agent: the default, by the name of `blank` in the definitions.
+    #[tactic(auto, unfolding(crate::specs::Record::blank))]
     pub fn blank() -> Record
         ensures { result ≡ blank }
     {
@@ -32,6 +22,7 @@ impl Record {
         }
     }
 
+    #[tactic(auto, unfolding(crate::specs::Record::number_at, crate::specs::Record::word_at))]
     fn number(self, place: usize) -> f32
         requires { place < per_record }
         ensures { result ≡ number_at self place }
@@ -40,6 +31,7 @@ impl Record {
     }
 
     // The vector whose first number is at `place`.
+    #[tactic(auto, unfolding(crate::specs::Record::vector_from))]
     fn vector(self, place: usize) -> Vec3
         requires { place + 2 < per_record }
         ensures { result ≡ vector_from self place }
@@ -51,6 +43,7 @@ impl Record {
         }
     }
 
+    #[tactic(auto, unfolding(crate::specs::Record::with_vector))]
     fn with_vector(mut self, place: usize, v: Vec3) -> Record
         requires { place + 2 < per_record }
         ensures { result ≡ with_vector self place v }
@@ -98,6 +91,7 @@ impl Record {
     }
 
     // The agent as the velocity call takes it.
+    #[tactic(auto, unfolding(crate::specs::Record::agent_of))]
     pub fn agent(self) -> Agent
         ensures { result ≡ agent_of self }
     {
@@ -109,6 +103,7 @@ impl Record {
         }
     }
 
+    #[tactic(auto, unfolding(crate::specs::Record::with_goal))]
     pub fn with_goal(self, goal: Vec3) -> Record
         ensures { result ≡ with_goal goal self }
     {
@@ -116,6 +111,7 @@ impl Record {
     }
 
     // The record of the agent where a velocity has taken it.
+    #[tactic(auto, unfolding(crate::specs::Record::moved_to))]
     pub fn moved_to(self, position: Vec3, velocity: Vec3) -> Record
         ensures { result ≡ moved_to self position velocity }
     {

@@ -1,30 +1,20 @@
 // The fleet file: records of 76 bytes, with each word little-endian. The definitions are in `specs/File.antt`.
-ghost use Rattle.std.specs.Prelude.{◌≡◌, ◌++◌, ◌+◌, ◌/◌, ◌≤◌, ◌<◌, length, get_or, take, drop};
-ghost use Rattle.std.proofs.lemmas.List.Edits.{sets};
+ghost use Rattle.std.specs.Prelude.{◌≡◌, ◌++◌, ◌+◌, ◌/◌, ◌≤◌, ◌<◌, length, take, drop, IsOk};
 ghost use Rattle.records.specs.Record.{most_agents};
-ghost use Rattle.records.specs.File.{record_bytes, word_in, record_in, whole_file, decoded_records, undecoded, decoded, bytes_of_word, bytes_of, with_record};
+ghost use Rattle.records.specs.File.{record_bytes, word_in, record_in, whole_file, decoded_records, decoded, bytes_of_word, bytes_of, with_record};
 
 use super::checks::record_verdict;
-use super::{Decoded, MOST_AGENTS, RECORD_BYTES, RECORD_WORDS, Record};
-use refusals::{Refusal, Verdict};
-
-fn byte(file: &[u8], at: usize) -> u32
-    requires { at < length file.now }
-    ensures same { result ≡ get_or file.now at 0 }
-    ensures small { result < 256 }
-{
-    file[at] as u32
-}
+use super::{MOST_AGENTS, RECORD_BYTES, RECORD_WORDS, Record, Records};
+use refusals::Refusal;
+use std::array;
 
 // The word whose first byte is at `at`, the least of the four.
+#[tactic(auto, unfolding(crate::specs::File::word_in))]
 fn word_at(file: &[u8], at: usize) -> u32
     requires { at + 4 ≤ length file.now }
     ensures { result ≡ word_in (drop at file.now) }
 {
-    byte(file, at)
-        + 256 * byte(file, at + 1)
-        + 65536 * byte(file, at + 2)
-        + 16777216 * byte(file, at + 3)
+    u32::from_le_bytes([file[at], file[at + 1], file[at + 2], file[at + 3]])
 }
 
 // The record whose first byte is at `at`.
@@ -32,96 +22,73 @@ pub(crate) fn record_at(file: &[u8], at: usize) -> Record
     requires { at + record_bytes ≤ length file.now }
     ensures { result ≡ record_in (drop at file.now) }
 {
-    let mut words = [0; RECORD_WORDS];
-    let mut place = 0;
-    while place < RECORD_WORDS {
-        words[place] = word_at(file, at + 4 * place);
-        place += 1;
+    Record {
+        words: array::from_fn(|place| word_at(file, at + 4 * place)),
     }
-    Record { words }
 }
 
-pub(crate) fn whole_file(bytes: usize) -> Verdict
-    ensures { result ≡ whole_file bytes }
+#[tactic(auto, unfolding(crate::specs::File::whole_file))]
+pub(crate) fn whole_file(bytes: usize) -> Result<(), Refusal>
+    ensures verdict { result ≡ whole_file bytes }
+    ensures few { IsOk result → bytes / record_bytes ≤ most_agents }
 {
     if bytes % RECORD_BYTES != 0 {
-        return Verdict::Refused(Refusal::BadFile { bytes });
+        return Err(Refusal::BadFile { bytes });
     }
     let is_too_long = MOST_AGENTS < bytes / RECORD_BYTES;
     if is_too_long {
-        return Verdict::Refused(Refusal::BadFile { bytes });
+        return Err(Refusal::BadFile { bytes });
     }
-    Verdict::Passed
-}
-
-fn undecoded(refusal: Refusal) -> Decoded
-    ensures { result ≡ undecoded refusal }
-{
-    Decoded {
-        verdict: Verdict::Refused(refusal),
-        count: 0,
-        records: [Record::blank(); MOST_AGENTS],
-    }
+    Ok(())
 }
 
 // The records of a whole file. The first bad one decides.
-fn decoded_records(file: &[u8]) -> Decoded
+#[tactic(auto, using(crate::proofs::InTurn::in_turn), unfolding(crate::specs::File::decoded_records))]
+fn decoded_records(file: &[u8]) -> Result<Records, Refusal>
     requires { length file.now / record_bytes ≤ most_agents }
     ensures { result ≡ decoded_records file.now }
 {
-    let count = file.len() / RECORD_BYTES;
-    let mut records = [Record::blank(); MOST_AGENTS];
-    let mut index = 0;
-    while index < count {
+    let mut records = Records::new();
+    for index in 0..file.len() / RECORD_BYTES {
         let stored = record_at(file, RECORD_BYTES * index);
-        if let Verdict::Refused(refusal) = record_verdict(RECORD_WORDS * index, stored) {
-            return undecoded(refusal);
-        }
-        records[index] = stored;
-        index += 1;
+        record_verdict(RECORD_WORDS * index, stored)?;
+        records.push(stored);
     }
-    Decoded {
-        verdict: Verdict::Passed,
-        count,
-        records,
-    }
+    Ok(records)
 }
 
-// What a lent file holds.
-pub fn decoded(file: &[u8]) -> Decoded
+// What a lent file holds: its records, or why it is refused.
+#[tactic(auto, unfolding(crate::specs::File::decoded, crate::specs::File::decoded_records, crate::specs::File::file_verdict))]
+pub fn decoded(file: &[u8]) -> Result<Records, Refusal>
     ensures { result ≡ decoded file.now }
 {
-    if let Verdict::Refused(refusal) = whole_file(file.len()) {
-        return undecoded(refusal);
-    }
+    whole_file(file.len())?;
     decoded_records(file)
 }
 
 // Writes a word's four bytes from `at` on, the least of them first.
+#[tactic(auto, unfolding(crate::specs::File::bytes_of_word))]
 fn write_word(buffer: &mut [u8], at: usize, word: u32)
     requires { at + 4 ≤ length buffer.old }
-    ensures { buffer.new ≡ sets buffer.old at (bytes_of_word word) }
+    ensures { buffer.new ≡ take at buffer.old ++ (bytes_of_word word ++ drop (at + 4) buffer.old) }
 {
-    buffer[at] = (word % 256) as u8;
-    buffer[at + 1] = (word / 256 % 256) as u8;
-    buffer[at + 2] = (word / 65536 % 256) as u8;
-    buffer[at + 3] = (word / 16777216 % 256) as u8;
+    buffer[at..at + 4].copy_from_slice(&word.to_le_bytes());
 }
 
 // Writes a record's words from `at` on.
+#[tactic(auto, using(crate::proofs::Encoding::words_written))]
 fn write_words(buffer: &mut [u8], at: usize, stored: Record)
     requires { at + record_bytes ≤ length buffer.old }
     ensures { buffer.new ≡ take at buffer.old ++ (bytes_of stored ++ drop (at + record_bytes) buffer.old) }
 {
-    let mut place = 0;
-    while place < RECORD_WORDS {
-        write_word(buffer, at + 4 * place, stored.words[place]);
-        place += 1;
+    for (place, &word) in stored.words.iter().enumerate() {
+        write_word(buffer, at + 4 * place, word);
     }
 }
 
 // Writes a record as its 76 bytes, at `index` among records of so many. Where there is no room for it, nothing is
 // written.
+#[tactic(auto, unfolding(crate::specs::File::with_record))]
 pub fn write_record(buffer: &mut [u8], index: usize, stored: Record)
     ensures { buffer.new ≡ with_record buffer.old index stored }
 {

@@ -8,7 +8,7 @@ pub mod checks;
 pub mod file;
 pub mod reader;
 
-use refusals::Verdict;
+use arrayvec::ArrayVec;
 
 // The words of a record, and its bytes in a file.
 pub const RECORD_WORDS: usize = 19;
@@ -41,29 +41,17 @@ pub const DISTANCE_WORD: usize = 18;
 
 // A stored agent. Document 01's words: 0-2 position, 3-5 velocity, 6 radius, 7 responsibility, 8-10 goal, 11 maximum
 // speed, 12 time horizon, 13-15 fallback, 16 obstacle time horizon, 17 margin, 18 distance.
-#[derive(Clone, Copy)]
+#[derive(Debug, Clone, Copy, PartialEq, Eq, Default)]
 pub struct Record {
     pub words: [u32; RECORD_WORDS],
 }
 
-// What a file holds: its records, and blank ones after them. Refused, it holds none.
-#[derive(Clone, Copy)]
-pub struct Decoded {
-    pub verdict: Verdict,
-    pub count: usize,
-    pub records: [Record; MOST_AGENTS],
-}
+// As many records as there can be agents, or fewer.
+pub type Records = ArrayVec<Record, MOST_AGENTS>;
 
-// A lent file, and the index of the record to hand out.
+// A lent file, and the index of the record to hand out: document 01 fixes this form of a reader.
 #[derive(Clone, Copy)]
 pub struct RecordReader<'a> {
     pub file: &'a [u8],
     pub index: usize,
-}
-
-// What a reader hands out. Refused, the record is blank.
-#[derive(Clone, Copy)]
-pub struct Handed {
-    pub verdict: Verdict,
-    pub stored: Record,
 }

@@ -4,40 +4,25 @@
 // The functions over a `RecordReader` are thin: whether a record is refused, and what it is, is the work of
 // `handed_at`, by the decoder and the checks that a whole file meets.
 ghost use Rattle.std.specs.Prelude.{◌≡◌};
-ghost use Rattle.records.specs.Reader.{reader_at, withheld, handed_at};
+ghost use Rattle.records.specs.Reader.{reader_at, handed_at};
 
 use super::checks::record_verdict;
 use super::file::{record_at, whole_file};
-use super::{Handed, RECORD_BYTES, RECORD_WORDS, Record, RecordReader};
-use refusals::{Refusal, Verdict};
-
-fn withheld(refusal: Refusal) -> Handed
-    ensures { result ≡ withheld refusal }
-{
-    Handed {
-        verdict: Verdict::Refused(refusal),
-        stored: Record::blank(),
-    }
-}
+use super::{RECORD_BYTES, RECORD_WORDS, Record, RecordReader};
+use refusals::Refusal;
 
 // 14, then 8, then the record's checks.
-fn handed_at(file: &[u8], index: usize) -> Handed
+#[tactic(auto, unfolding(crate::specs::Reader::handed_at, crate::specs::Reader::stored_verdict))]
+fn handed_at(file: &[u8], index: usize) -> Result<Record, Refusal>
     ensures { result ≡ handed_at file.now index }
 {
-    if let Verdict::Refused(refusal) = whole_file(file.len()) {
-        return withheld(refusal);
-    }
+    whole_file(file.len())?;
     if file.len() / RECORD_BYTES <= index {
-        return withheld(Refusal::NoAgent { index });
+        return Err(Refusal::NoAgent { index });
     }
     let stored = record_at(file, RECORD_BYTES * index);
-    if let Verdict::Refused(refusal) = record_verdict(RECORD_WORDS * index, stored) {
-        return withheld(refusal);
-    }
-    Handed {
-        verdict: Verdict::Passed,
-        stored,
-    }
+    record_verdict(RECORD_WORDS * index, stored)?;
+    Ok(stored)
 }
 
 impl<'a> RecordReader<'a> {
@@ -59,7 +44,7 @@ impl<'a> RecordReader<'a> {
     }
 
     // The record at the reader's index.
-    pub fn record(self) -> Handed
+    pub fn record(self) -> Result<Record, Refusal>
         ensures { result ≡ handed_at self.entry.file.now self.entry.index }
     {
         handed_at(self.file, self.index)
@@ -67,7 +52,7 @@ impl<'a> RecordReader<'a> {
 }
 
 // The record at `index` of a file, for a caller that holds no reader.
-pub fn read_record(file: &[u8], index: usize) -> Handed
+pub fn read_record(file: &[u8], index: usize) -> Result<Record, Refusal>
     ensures { result ≡ handed_at file.now index }
 {
     RecordReader::at(file, index).record()
