@@ -7,7 +7,6 @@ use native.Mathlib.Omega.{arith}
 use lib.Dec.{eqb}
 use lib.Ieee.{Float}
 use lib.ListN.{length, get_or}
-use Rattle.refusals.specs.declared.Verdict.TheVariants.{Passed}
 use Rattle.requests.specs.declared.Kind.TheVariants.{Positive}
 use Rattle.requests.proofs.checks.CallNumbers.{Allowed, FitAgent, FitRequest, FitNeighbours}
 use Rattle.records.specs.declared.Record.{Record}
@@ -17,8 +16,9 @@ use Rattle.records.proofs.Passed.{passed-fallback}
 use Rattle.records.proofs.FitRecords.{fit-agent, max-speed-allowed, horizon-allowed, fallback-finite}
 use Rattle.planner.specs.declared.Rule.{Rule}
 use Rattle.planner.specs.Plan.{keeps, kept_from, neighbour_numbers, request_for, own_record, neighbour_indices, neighbours_of}
+use Rattle.refusals.specs.Verdict.{passed}
 
-pub request-fit : (own : Record) (time_step : Float) → record_verdict 0 own ≡ Passed → length own.words ≡ per_record → Allowed Positive time_step → FitRequest (request_for own time_step)
+pub request-fit : (own : Record) (time_step : Float) → record_verdict 0 own ≡ passed → length own.words ≡ per_record → Allowed Positive time_step → FitRequest (request_for own time_step)
 unfolding request_for
 request-fit own time_step passes words accepted = record {
   agent = fit-agent own passes words;

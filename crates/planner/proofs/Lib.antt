@@ -1,5 +1,4 @@
 -- Laws that the proofs share, and what is proved of the definitions themselves.
-pub mod Lists
 pub mod Kept
 pub mod Replies
 pub mod FitPlans

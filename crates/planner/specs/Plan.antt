@@ -3,9 +3,8 @@ use Rattle.std.specs.Prelude.{ℕ, suc, Bool, not, ◌&&◌, cond, List, [], ◌
 use Rattle.vectors.specs.Number.{◌⊕◌, ◌⊗◌, ◌≤ᶠ◌, ◌>ᶠ◌, of_word}
 use Rattle.vectors.specs.Vec3.{◌-ᵥ◌, distance_squared}
 use Rattle.requests.specs.declared.Request.{Request}
-use Rattle.requests.specs.declared.Reply.{Reply}
 use Rattle.requests.specs.Lent.{agent_numbers}
-use Rattle.requests.specs.Reply.{renamed}
+use Rattle.requests.specs.Reply.{renamed, Reply}
 use Rattle.avoidance.specs.Velocity.{velocity_call, scratch_after}
 use Rattle.records.specs.declared.Record.{Record}
 use Rattle.records.specs.Record.{blank, agent_of, position_of, radius_of, goal_of, max_speed_of, horizon_of, fallback_of}

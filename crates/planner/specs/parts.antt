@@ -1,2 +1,0 @@
--- What private functions promise each other: nobody has to believe it.
-pub mod Plan
