@@ -15,14 +15,14 @@ use Prim.Native.Nat.{ℕ, zero, suc, ◌+◌, ◌<◌, ◌≤◌}
 use native.Mathlib.Nat.{not-suc-le-zero}
 use native.Mathlib.Omega.{arith}
 use lib.Dec.{eqb}
-use lib.ListN.{length, length-take, get_or, take, set, replicate, length-replicate, get_or-replicate}
+use lib.ListN.{length, get_or, take, set, replicate, length-replicate, get_or-replicate}
 use lib.Seq.{get_or-set_same, get_or-set_other}
 use lib.Ieee.{Float}
 use borrow.Author.Tests.{eqb-true, eqb-false}
+use Rattle.std.specs.Prelude.{Option, Some, None, is_some}
 use Rattle.vectors.specs.declared.Vec3.{Vec3}
 use Rattle.vectors.specs.Number.{zero as zero32}
 use Rattle.vectors.proofs.Truth.{no_truth, both}
-use Rattle.refusals.specs.declared.Verdict.{Verdict}
 use Rattle.requests.specs.Checks.{full_scratch}
 use Rattle.requests.specs.Reply.{renamed}
 use Rattle.avoidance.proofs.velocity.CallLaws.{enough-scratch}
@@ -33,23 +33,21 @@ use Rattle.planner.specs.declared.Rule.{Rule}
 use Rattle.planner.specs.Plan.{request_for, own_record, neighbour_indices, neighbours_of, reply_for}
 use Rattle.planner.proofs.Replies.{reply-is}
 use Rattle.fleet.specs.declared.Answer.{Answer}
-use Rattle.fleet.specs.declared.Held.TheVariants.{Nothing}
-use Rattle.fleet.specs.declared.Slot.{Slot}
-use Rattle.fleet.specs.declared.Tick.TheVariants.{Open}
 use Rattle.fleet.specs.declared.Fleet.{Fleet}
 use Rattle.fleet.specs.Answer.{number}
 use Rattle.fleet.specs.Table.{agents, nothing_held, holding_nothing, fleet_of, settled}
-use Rattle.fleet.specs.Tick.{open_verdict, open_call, with_held, goals_taken, ended, has_plan, arrivals, all_moved, close_verdict}
+use Rattle.fleet.specs.Tick.{open_verdict, open_call, with_held, goals_taken, ended, arrivals, all_moved, close_verdict}
 use Rattle.fleet.specs.Plan.{plan_in, plan_call}
 use Rattle.fleet.specs.Calls.{Call, step}
 use Rattle.fleet.specs.Runs.{after, run, accepted, stays, stays_open, goal_in, goals_of, goal_calls, in_order, canonical}
-use Rattle.fleet.specs.Claims.{WholeFleet, opened_on, InTick, PlansStand, DemandThree, AnyOrderDropped, PlanRepeated, OrderUnseen, AnsweredInTurn, RefusedUnseen}
+use Rattle.fleet.specs.Claims.{opened_on, InTick, PlansStand, DemandThree, AnyOrderDropped, PlanRepeated, OrderUnseen, AnsweredInTurn, RefusedUnseen}
 use Rattle.fleet.proofs.Lists.{take_same}
 use Rattle.fleet.proofs.Each.{each-length, each_same}
 use Rattle.fleet.proofs.Verdicts.{settled-passes}
-use Rattle.fleet.proofs.HeldGoals.{slot, hold_all, applied, all_fit, held-length, taken-applied, taken_none, goals-shut}
+use Rattle.fleet.proofs.HeldGoals.{hold_all, applied, all_fit, held-length, taken-applied, taken_none, goals-shut}
 use Rattle.fleet.proofs.Refusals.{refused-unchanged}
 use Rattle.fleet.proofs.InTick.{state, agents-are, due, Can, full, Reached, call-leads, calls-lead, one-planned, answer_by, accepted-by, accepted-close, closed, all-planned, plan-answer, dropped}
+use Rattle.refusals.specs.Verdict.{Verdict}
 
 pub after-append : (fleet : Fleet) (calls more : List Call) → after fleet (calls ++ more) ≡ after (after fleet calls) more
 unfolding after
@@ -59,36 +57,36 @@ after-append fleet (call ∷ calls) more = after-append (step fleet call).fleet 
 -- ---- a tick that was opened on the records rs
 
 module _ (rs : List Record) (time_step : Float) (rule : Rule) (few : length rs ≤ most_agents) where
-  abbrev state_of : List Slot → List Slot → Fleet
+  abbrev state_of : List (Option Vec3) → List (Option Vec3) → Fleet
   state_of = state rs time_step rule few
 
   abbrev due_to : ℕ → Vec3
   due_to = due rs time_step rule few
 
-  abbrev plan_of : ℕ → Slot
+  abbrev plan_of : ℕ → Option Vec3
   plan_of = full rs time_step rule few
 
   -- ---- the canonical plans
 
-  held-full : (plans : List Slot) (j : ℕ) → j < length plans → ((i : ℕ) → i < j → get_or plans i (slot Nothing) ≡ plan_of i)
-      → (i : ℕ) → i < suc j → get_or (with_held plans j (due_to j)) i (slot Nothing) ≡ plan_of i
+  held-full : (plans : List (Option Vec3)) (j : ℕ) → j < length plans → ((i : ℕ) → i < j → get_or plans i None ≡ plan_of i)
+      → (i : ℕ) → i < suc j → get_or (with_held plans j (due_to j)) i None ≡ plan_of i
   unfolding with_held
   held-full plans j room before i below = go (eqb i j) refl
     where
-      go : (b : Bool) → eqb i j ≡ b → get_or (set plans j (plan_of j)) i (slot Nothing) ≡ plan_of i
+      go : (b : Bool) → eqb i j ≡ b → get_or (set plans j (plan_of j)) i None ≡ plan_of i
       go true is =
           let e = eqb-true i j is in
-          ap (λ (k : ℕ). get_or (set plans j (plan_of j)) k (slot Nothing)) e ∙ get_or-set_same plans j (plan_of j) (slot Nothing) room ∙ ap plan_of (sym e)
-      go false is = get_or-set_other plans j i (plan_of j) (slot Nothing) (eqb-false i j is) ∙ before i (omega (arith, eqb-false i j is))
+          ap (λ (k : ℕ). get_or (set plans j (plan_of j)) k None) e ∙ get_or-set_same plans j (plan_of j) None room ∙ ap plan_of (sym e)
+      go false is = get_or-set_other plans j i (plan_of j) None (eqb-false i j is) ∙ before i (omega (arith, eqb-false i j is))
 
-  record Planned (goals : List Slot) (fleet : Fleet) : Type 0 where
-    plans : List Slot
+  record Planned (goals : List (Option Vec3)) (fleet : Fleet) : Type 0 where
+    plans : List (Option Vec3)
     is : fleet ≡ state_of plans goals
     long : length plans ≡ most_agents
-    all : (i : ℕ) → i < length rs → get_or plans i (slot Nothing) ≡ plan_of i
+    all : (i : ℕ) → i < length rs → get_or plans i None ≡ plan_of i
 
-  planned-in_order : (m j : ℕ) (plans goals : List Slot) (scratch : List Float) → full_scratch ≤ length scratch → j + m ≡ length rs → length plans ≡ most_agents
-      → ((i : ℕ) → i < j → get_or plans i (slot Nothing) ≡ plan_of i) → ((i : ℕ) → i < length rs → Can rs time_step rule few i)
+  planned-in_order : (m j : ℕ) (plans goals : List (Option Vec3)) (scratch : List Float) → full_scratch ≤ length scratch → j + m ≡ length rs → length plans ≡ most_agents
+      → ((i : ℕ) → i < j → get_or plans i None ≡ plan_of i) → ((i : ℕ) → i < length rs → Can rs time_step rule few i)
       → Planned goals (after (state_of plans goals) (in_order j m scratch))
   unfolding after in_order step plan_call plan_in state
   planned-in_order zero j plans goals scratch enough all long before can = record { plans = plans; is = refl; long = long; all = λ i below. before i (omega arith) }
@@ -99,21 +97,21 @@ module _ (rs : List Record) (time_step : Float) (rule : Rule) (few : length rs �
       (planned-in_order m (suc j) (with_held plans j (due_to j)) goals scratch enough (omega arith) (held-length plans j (due_to j) ∙ long) (held-full plans j (omega arith) before) can)
 
   -- plans that agree for every agent close alike
-  front_same : (plans plans' : List Slot) → length plans ≡ most_agents → length plans' ≡ most_agents
-      → ((i : ℕ) → i < length rs → get_or plans i (slot Nothing) ≡ plan_of i)
-      → ((i : ℕ) → i < length rs → get_or plans' i (slot Nothing) ≡ plan_of i)
+  front_same : (plans plans' : List (Option Vec3)) → length plans ≡ most_agents → length plans' ≡ most_agents
+      → ((i : ℕ) → i < length rs → get_or plans i None ≡ plan_of i)
+      → ((i : ℕ) → i < length rs → get_or plans' i None ≡ plan_of i)
       → take (length rs) plans ≡ take (length rs) plans'
-  front_same plans plans' long long' all all' = take_same (length rs) plans plans' (slot Nothing) (omega arith) (omega arith) (λ i below. all i below ∙ sym (all' i below))
+  front_same plans plans' long long' all all' = take_same (length rs) plans plans' None (omega arith) (omega arith) (λ i below. all i below ∙ sym (all' i below))
 
-  moved_same : (plans plans' : List Slot) → take (length rs) plans ≡ take (length rs) plans' → all_moved time_step rs plans ≡ all_moved time_step rs plans'
+  moved_same : (plans plans' : List (Option Vec3)) → take (length rs) plans ≡ take (length rs) plans' → all_moved time_step rs plans ≡ all_moved time_step rs plans'
   unfolding all_moved
   moved_same plans plans' same = each_same _ rs plans plans' same
 
-  verdict-same : (plans plans' : List Slot) → take (length rs) plans ≡ take (length rs) plans' → close_verdict time_step rs plans ≡ close_verdict time_step rs plans'
+  verdict-same : (plans plans' : List (Option Vec3)) → take (length rs) plans ≡ take (length rs) plans' → close_verdict time_step rs plans ≡ close_verdict time_step rs plans'
   unfolding close_verdict arrivals
   verdict-same plans plans' same = rw (same, each_same _ rs plans plans' same)
 
-  moved_length : (plans : List Slot) → length plans ≡ most_agents → length (all_moved time_step rs plans) ≡ length rs
+  moved_length : (plans : List (Option Vec3)) → length plans ≡ most_agents → length (all_moved time_step rs plans) ≡ length rs
   unfolding all_moved
   moved_length plans long = each-length _ rs plans (omega arith)
 
@@ -148,13 +146,13 @@ module _ (rs : List Record) (time_step : Float) (rule : Rule) (few : length rs �
       plans-here calls (gs ++ goal_in fleet call) (step fleet call).fleet (call-leads rs time_step rule few call gs fleet reached one) more index scratch given later answers
 
   opened-right : Reached rs time_step rule few [] opening
-  unfolding opening hold_all all_fit nothing_held has_plan
+  unfolding opening hold_all all_fit nothing_held
   opened-right = record {
     plans = nothing_held;
     is = refl;
     ok = record {
-      long = length-replicate most_agents (slot Nothing);
-      right = λ i below is. no_truth (sym (ap (λ (s : Slot). has_plan s.held) (get_or-replicate most_agents i (slot Nothing) (slot Nothing) (omega arith))) ∙ is);
+      long = length-replicate {A = Option Vec3} most_agents None;
+      right = λ i below is. no_truth (sym (ap (λ (plan : Option Vec3). is_some plan) (get_or-replicate most_agents i None None (omega arith))) ∙ is);
     };
     fits = refl;
   }
@@ -166,7 +164,7 @@ module _ (rs : List Record) (time_step : Float) (rule : Rule) (few : length rs �
       let reached = calls-lead rs time_step rule few calls [] opening opened-right still in
       ap (λ (fleet : Fleet). (step fleet Call.drop).fleet) reached.is
       ∙ dropped rs time_step rule few reached.plans (hold_all nothing_held gs)
-      ∙ ap fleet_of (taken-applied rs nothing_held gs (omega (arith, length-replicate most_agents (slot Nothing))) reached.fits ∙ ap (λ (l : List Record). applied l gs) (taken_none most_agents rs few))
+      ∙ ap fleet_of (taken-applied rs nothing_held gs (omega (arith, length-replicate {A = Option Vec3} most_agents None)) reached.fits ∙ ap (λ (l : List Record). applied l gs) (taken_none most_agents rs few))
       ∙ sym (goals-shut rs gs reached.fits)
 
   any-order-here : (calls : List Call) (scratch : List Float) → stays_open opening calls ≡ true → accepted (after opening calls) Call.close ≡ true → full_scratch ≤ length scratch
@@ -179,10 +177,10 @@ module _ (rs : List Record) (time_step : Float) (rule : Rule) (few : length rs �
       let plans = reached.plans in
       let long = reached.ok.long in
       let passed = accepted-close rs time_step rule few plans goals (subst (λ (fleet : Fleet). accepted fleet Call.close ≡ true) reached.is accepted-is) in
-      let right : (i : ℕ) → i < length rs → (get_or plans i (slot Nothing) ≡ plan_of i) × Can rs time_step rule few i =
+      let right : (i : ℕ) → i < length rs → (get_or plans i None ≡ plan_of i) × Can rs time_step rule few i =
       λ i below. reached.ok.right i below (all-planned rs time_step rule few plans long passed i below) in
       let canon =
-      planned-in_order (length rs) 0 nothing_held nothing_held scratch enough (omega arith) (length-replicate most_agents (slot Nothing))
+      planned-in_order (length rs) 0 nothing_held nothing_held scratch enough (omega arith) (length-replicate {A = Option Vec3} most_agents None)
       (λ i below. absurd (not-suc-le-zero below)) (λ i below. (right i below).1) in
       let same = front_same plans canon.plans long canon.long (λ i below. (right i below).0) canon.all in
       let moved_all = all_moved time_step rs plans in
@@ -192,7 +190,7 @@ module _ (rs : List Record) (time_step : Float) (rule : Rule) (few : length rs �
       let here : (step (after opening calls) Call.close).fleet ≡ fleet_of (applied moved_all gs) =
       ap (λ (fleet : Fleet). (step fleet Call.close).fleet) reached.is
       ∙ closed rs time_step rule few plans goals passed
-      ∙ ap fleet_of (taken-applied moved_all nothing_held gs (omega (arith, length-replicate most_agents (slot Nothing))) fits ∙ ap (λ (l : List Record). applied l gs) none) in
+      ∙ ap fleet_of (taken-applied moved_all nothing_held gs (omega (arith, length-replicate {A = Option Vec3} most_agents None)) fits ∙ ap (λ (l : List Record). applied l gs) none) in
       let there : after opening (in_order 0 (length rs) scratch ++ Call.close ∷ goal_calls gs) ≡ fleet_of (applied moved_all gs) =
       after-append opening (in_order 0 (length rs) scratch) (Call.close ∷ goal_calls gs)
       ∙ ap (λ (fleet : Fleet). after (step fleet Call.close).fleet (goal_calls gs)) canon.is
@@ -205,16 +203,12 @@ module _ (rs : List Record) (time_step : Float) (rule : Rule) (few : length rs �
 
 -- ---- demand 3
 
-few-agents : (fleet : Fleet) → WholeFleet fleet → length (agents fleet) ≤ most_agents
-unfolding agents
-few-agents fleet whole = omega (arith, length-take fleet.standing.count fleet.standing.records)
-
 -- an opening that is accepted
 opened-is : (fleet : Fleet) (time_step : Float) (rule : Rule) (few : length (agents fleet) ≤ most_agents) → accepted fleet (Call.start time_step rule) ≡ true
     → opened_on fleet time_step rule ≡ opening (agents fleet) time_step rule few
 unfolding accepted step open_call opening state holding_nothing settled
 opened-is fleet time_step rule few h =
-    ap (λ (v : Verdict). (settled v fleet (holding_nothing (Open time_step rule) (agents fleet))).fleet) (settled-passes (open_verdict fleet.tick time_step) fleet _ (eqb-true _ _ h))
+    ap (λ (v : Verdict). (settled v fleet (holding_nothing (Some (record { time_step = time_step; rule = rule })) (agents fleet))).fleet) (settled-passes (open_verdict fleet.tick time_step) fleet _ (eqb-true _ _ h))
 
 -- in a tick that was opened on `fleet`, after calls that keep it open
 module _ (fleet : Fleet) (time_step : Float) (rule : Rule) (calls : List Call) (made : InTick fleet time_step rule calls) where
@@ -222,7 +216,7 @@ module _ (fleet : Fleet) (time_step : Float) (rule : Rule) (calls : List Call) (
   opened = opened_on fleet time_step rule
 
   few : length (agents fleet) ≤ most_agents
-  few = few-agents fleet made.whole
+  few = made.whole
 
   abbrev start : Fleet
   start = opening (agents fleet) time_step rule few

@@ -6,23 +6,12 @@ use native.Mathlib.Nat.{not-suc-le-zero, le_of_suc-le-suc}
 use native.Mathlib.Numerals.{add-one}
 use native.Mathlib.Omega.{arith}
 use lib.ListN.{length, get_or, take, drop, set, drop_of_length-le}
-use lib.Seq.{take-suc-set, take_all}
+use lib.Seq.{take-suc-set, take_all, take_at, drop-set-lt}
+use Rattle.std.specs.List.{refill}
 use Rattle.fleet.specs.Tick.{each}
 use Rattle.fleet.proofs.Lists.{Every}
 
--- what stands of the results, and then those that are left
-abbrev pub so_far : {A B C : Type 0} → (A → B → C) → ℕ → List C → List A → List B → List C
-so_far f i out xs ys = take i out ++ each f (drop i xs) (drop i ys)
-
 module _ {A B C : Type 0} (f : A → B → C) where
-  -- the first n results are those of the first n
-  pub each_take : (n : ℕ) (xs : List A) (ys : List B) → take n (each f xs ys) ≡ each f (take n xs) ys
-  unfolding each
-  each_take zero xs ys = refl
-  each_take (suc n) [] ys = refl
-  each_take (suc n) (x ∷ xs) [] = refl
-  each_take (suc n) (x ∷ xs) (y ∷ ys) = ap (λ (l : List C). f x y ∷ l) (each_take n xs ys)
-
   pub each-drop : (i : ℕ) (xs : List A) (ys : List B) (d : A) (e : B) → i < length xs → i < length ys
       → each f (drop i xs) (drop i ys) ≡ f (get_or xs i d) (get_or ys i e) ∷ each f (drop (suc i) xs) (drop (suc i) ys)
   unfolding each
@@ -30,16 +19,6 @@ module _ {A B C : Type 0} (f : A → B → C) where
   each-drop i (x ∷ xs) [] d e h k = absurd (not-suc-le-zero k)
   each-drop zero (x ∷ xs) (y ∷ ys) d e h k = refl
   each-drop (suc i) (x ∷ xs) (y ∷ ys) d e h k = each-drop i xs ys d e (le_of_suc-le-suc h) (le_of_suc-le-suc k)
-
-  pub each_step : (i : ℕ) (out : List C) (xs : List A) (ys : List B) (d : A) (e : B) → i < length out → i < length xs → i < length ys
-      → so_far f (i + 1) (set out i (f (get_or xs i d) (get_or ys i e))) xs ys ≡ so_far f i out xs ys
-  each_step i out xs ys d e ho hx hy =
-      rw (add-one i, take-suc-set out i (f (get_or xs i d) (get_or ys i e)) ho, each-drop i xs ys d e hx hy)
-      (append_assoc (take i out) (f (get_or xs i d) (get_or ys i e) ∷ []) (each f (drop (suc i) xs) (drop (suc i) ys)))
-
-  pub each-end : (i : ℕ) (out : List C) (xs : List A) (ys : List B) → length out ≤ i → length xs ≤ i → so_far f i out xs ys ≡ out
-  unfolding each
-  each-end i out xs ys ho hx = rw (take_all i out ho, drop_of_length-le xs hx) (append-nil out)
 
   -- only as many are read as there are of the first list
   pub each-front : (xs : List A) (ys : List B) → each f xs ys ≡ each f xs (take (length xs) ys)
@@ -80,3 +59,22 @@ module _ {A B C : Type 0} (f : A → B → C) where
   each-every P xs ys d e c room all i h =
       let there : i < length xs = omega (arith, each-length xs ys room) in
       subst P (sym (each_at xs ys i d e c there (omega arith))) (all i there)
+
+-- ---- a list changed in place: the elements before i, and what becomes of those that are left
+
+module _ {A B : Type 0} (f : A → B → A) where
+  pub changed_more : (i : ℕ) (xs : List A) (ys : List B) (x d : A) (e : B) → x ≡ f (get_or xs i d) (get_or ys i e) → i < length xs → i < length ys
+      → take (i + 1) (set xs i x) ++ each f (drop (i + 1) (set xs i x)) (drop (i + 1) ys) ≡ take i xs ++ each f (drop i xs) (drop i ys)
+  changed_more i xs ys x d e is there held =
+      rw (add-one i, take-suc-set xs i x there, drop-set-lt (suc i) xs i x (omega arith), each-drop f i xs ys d e there held, is)
+      (append_assoc (take i xs) (f (get_or xs i d) (get_or ys i e) ∷ []) (each f (drop (suc i) xs) (drop (suc i) ys)))
+
+  pub changed_all : (i : ℕ) (xs : List A) (ys : List B) → length xs ≤ i → take i xs ++ each f (drop i xs) (drop i ys) ≡ xs
+  unfolding each
+  changed_all i xs ys past = rw (take_all i xs past, drop_of_length-le xs past) (append-nil xs)
+
+-- a slice of all of a list, written back
+pub written_back : {A : Type 0} (n : ℕ) (xs ws : List A) → length ws ≡ n → refill n xs ws ≡ ws
+written_back n xs ws long = take_at ws (drop (length ws) xs) n long
+
+pub ruleset changes = (changed_more, changed_all, written_back)

@@ -10,32 +10,30 @@ use mathlib.Core.Path.{◌≡◌, refl, ap, ◌∙◌}
 use mathlib.Core.List.{List, [], ◌∷◌}
 use Prim.Native.Nat.{ℕ, zero, suc, ◌+◌, ◌≤◌}
 use native.Mathlib.Omega.{arith}
-use lib.ListN.{length, take}
+use lib.ListN.{length}
 use lib.Ieee.{Float}
-use Rattle.refusals.specs.declared.Verdict.{Verdict}
-use Rattle.refusals.specs.declared.Verdict.TheVariants.{Passed, Refused}
+use Rattle.arrayvec.specs.ArrayVec.{ArrayVec}
+use Rattle.std.specs.Prelude.{Option, Some, None, Ok, Err}
+use Rattle.vectors.specs.declared.Vec3.{Vec3}
+use Rattle.refusals.specs.Verdict.{Verdict, passed}
 use Rattle.refusals.proofs.Verdicts.{not-passed, both-passed}
-use Rattle.requests.specs.declared.Reply.{Reply}
 use Rattle.records.specs.declared.Record.{Record}
 use Rattle.records.specs.Record.{most_agents}
 use Rattle.planner.specs.declared.Rule.{Rule}
 use Rattle.planner.specs.Plan.{reply_for}
-use Rattle.fleet.specs.declared.Slot.{Slot}
 use Rattle.fleet.specs.declared.Tick.{Tick}
-use Rattle.fleet.specs.declared.Tick.TheVariants.{Shut, Open}
-use Rattle.fleet.specs.declared.Standing.{Standing}
 use Rattle.fleet.specs.declared.Fleet.{Fleet}
 use Rattle.fleet.specs.Answer.{number}
-use Rattle.fleet.specs.Table.{agents, nothing_held, standing_of, holding_nothing, fleet_of, settled, shut, has_agent}
+use Rattle.fleet.specs.Table.{agents, nothing_held, holding_nothing, fleet_of, settled, shut, has_agent}
 use Rattle.fleet.specs.Tick.{step_verdict, open_verdict, open_call, ended, close_call, opened, drop_call}
 use Rattle.fleet.specs.Plan.{fleet_after, answered_by, plan_open, plan_in, plan_call}
 use Rattle.fleet.specs.Calls.{Call, step}
 use Rattle.fleet.specs.Runs.{after, goal_calls, in_order, canonical}
-use Rattle.fleet.proofs.Agents.{agents-holding}
 use Rattle.fleet.proofs.Verdicts.{settled-passes}
 use Rattle.fleet.proofs.HeldGoals.{taken_none}
 use Rattle.fleet.proofs.Refusals.{refused-unchanged}
 use Rattle.fleet.proofs.AnyOrder.{after-append}
+use Rattle.requests.specs.Reply.{Reply}
 
 -- ---- the canonical run, call by call
 
@@ -83,21 +81,21 @@ unfolding step
 started fleet time_step rule = refl
 
 module _ (fleet : Fleet) (time_step : Float) (rule : Rule) (opens : number (open_call fleet time_step rule).answer ≡ 0) where
-  open-passed : open_verdict fleet.tick time_step ≡ Passed
+  open-passed : open_verdict fleet.tick time_step ≡ passed
   unfolding open_call
   open-passed = settled-passes (open_verdict fleet.tick time_step) fleet _ opens
 
-  pub open-shut : fleet.tick ≡ Shut
+  pub open-shut : fleet.tick ≡ None
   unfolding open_verdict shut
   open-shut = go fleet.tick (both-passed (shut fleet.tick) (step_verdict time_step) open-passed).0
     where
-      go : (tick : Tick) → shut tick ≡ Passed → tick ≡ Shut
-      go Shut e = refl
-      go (Open time_step' rule') e = not-passed e
+      go : (tick : Option Tick) → shut tick ≡ passed → tick ≡ None
+      go None e = refl
+      go (Some tick) e = not-passed e
 
-  is-opened : (open_call fleet time_step rule).fleet ≡ holding_nothing (Open time_step rule) (agents fleet)
+  is-opened : (open_call fleet time_step rule).fleet ≡ holding_nothing (Some (record { time_step = time_step; rule = rule })) (agents fleet)
   unfolding open_call settled
-  is-opened = ap (λ (v : Verdict). (settled v fleet (holding_nothing (Open time_step rule) (agents fleet))).fleet) open-passed
+  is-opened = ap (λ (v : Verdict). (settled v fleet (holding_nothing (Some (record { time_step = time_step; rule = rule })) (agents fleet))).fleet) open-passed
 
 -- ---- plans, and a drop
 
@@ -118,25 +116,24 @@ alters-more first more = record {
 
 answer-alters : (v : Verdict) (fleet : Fleet) (index : ℕ) (r : Reply) → ButPlans fleet (answered_by v fleet index r).fleet
 unfolding answered_by fleet_after
-answer-alters Passed fleet index r = record { standing = refl; tick = refl; goals = refl }
-answer-alters (Refused refusal) fleet index r = unaltered fleet
+answer-alters (Ok _) fleet index r = record { standing = refl; tick = refl; goals = refl }
+answer-alters (Err refusal) fleet index r = unaltered fleet
 
 pub plan-alters : (fleet : Fleet) (index k : ℕ) → ButPlans fleet (plan_call fleet index k).fleet
 unfolding plan_call plan_in plan_open settled
 plan-alters fleet index k = go fleet.tick
   where
-    go : (tick : Tick) → ButPlans fleet (plan_in tick fleet index k).fleet
-    go Shut = unaltered fleet
-    go (Open time_step rule) = answer-alters (has_agent fleet index) fleet index (reply_for time_step rule (agents fleet) index k)
+    go : (tick : Option Tick) → ButPlans fleet (plan_in tick fleet index k).fleet
+    go None = unaltered fleet
+    go (Some tick) = answer-alters (has_agent fleet index) fleet index (reply_for tick.time_step tick.rule (agents fleet) index k)
 
-drop-opened : (rs : List Record) (time_step : Float) (rule : Rule) (next : Fleet) → length rs ≤ most_agents → ButPlans (holding_nothing (Open time_step rule) rs) next
+drop-opened : (rs : List Record) (time_step : Float) (rule : Rule) (next : Fleet) → length rs ≤ most_agents → ButPlans (holding_nothing (Some (record { time_step = time_step; rule = rule })) rs) next
     → (drop_call next).fleet ≡ fleet_of rs
-unfolding drop_call settled opened agents holding_nothing standing_of ended nothing_held
+unfolding drop_call settled opened holding_nothing ended nothing_held
 drop-opened rs time_step rule next few same =
-    ap (λ (tick : Tick). (settled (opened tick) next (ended (agents next) next.goals)).fleet) same.tick
-    ∙ ap (λ (standing : Standing). ended (take standing.count standing.records) next.goals) same.standing
-    ∙ ap (λ (goals : List Slot). ended (agents (fleet_of rs)) goals) same.goals
-    ∙ ap (λ (l : List Record). ended l nothing_held) (agents-holding Shut rs)
+    ap (λ (tick : Option Tick). (settled (opened tick) next (ended (agents next) next.goals)).fleet) same.tick
+    ∙ ap (λ (standing : ArrayVec Record). ended standing.items next.goals) same.standing
+    ∙ ap (λ (goals : List (Option Vec3)). ended (agents (fleet_of rs)) goals) same.goals
     ∙ ap fleet_of (taken_none most_agents rs few)
 
 pub dropped-back : (fleet : Fleet) (time_step : Float) (rule : Rule) (next : Fleet) → length (agents fleet) ≤ most_agents → number (open_call fleet time_step rule).answer ≡ 0

@@ -1,8 +1,8 @@
 -- Laws that the proofs share, and what is proved of the definitions themselves.
 pub mod Lists
-pub mod Agents
 pub mod Verdicts
 pub mod Each
+pub mod Positions
 pub mod LoadRead
 pub mod HeldGoals
 pub mod Refusals

@@ -1,33 +1,10 @@
--- Laws on lists: a list that is filled or written element by element, two that agree as far as they are read, and what holds of every element.
+-- Laws on lists: two that agree as far as they are read, and what holds of every element.
 use mathlib.Core.Path.{◌≡◌, refl, ap, ◌∙◌}
-use mathlib.Core.List.{List, [], ◌∷◌, ◌++◌, append_assoc, append-nil}
-use Prim.Native.Nat.{ℕ, zero, suc, ◌+◌, ◌-◌, ◌≤◌, ◌<◌}
+use mathlib.Core.List.{List, [], ◌∷◌, ◌++◌}
+use Prim.Native.Nat.{ℕ, zero, suc, ◌≤◌, ◌<◌}
 use native.Mathlib.Nat.{not-suc-le-zero, le_of_suc-le-suc, zero-lt-suc}
-use native.Mathlib.Numerals.{add-one}
 use native.Mathlib.Omega.{arith}
-use lib.ListN.{length, get_or, take, drop, set, replicate}
-use lib.Seq.{take-suc-set, take_all, append_snoc}
-
--- the first elements of a list, and then one that fills it up to n
-abbrev pub filled : {A : Type 0} → ℕ → A → ℕ → List A → List A
-filled n a i l = take i l ++ replicate (n - i) a
-
-pub filled-step : {A : Type 0} (n : ℕ) (a : A) (i : ℕ) (l : List A) → length l ≡ n → i < n → filled n a (i + 1) (set l i a) ≡ filled n a i l
-filled-step n a i l all h =
-    let there : i < length l = omega arith in
-    let left : n - i ≡ suc (n - suc i) = omega arith in
-    rw (add-one i, take-suc-set l i a there, left) (append_assoc (take i l) (a ∷ []) (replicate (n - suc i) a))
-
-pub filled-end : {A : Type 0} (n : ℕ) (a : A) (i : ℕ) (l : List A) → length l ≡ n → n ≤ i → filled n a i l ≡ l
-filled-end n a i l all h =
-    let past : length l ≤ i = omega arith in
-    let left : n - i ≡ 0 = omega arith in
-    rw (take_all i l past, left) (append-nil l)
-
--- ---- a list written from its start on: what stands before i, and what is still to come
-
-pub written_step : {A : Type 0} (l : List A) (i : ℕ) (a : A) (rest : List A) → i < length l → take (i + 1) (set l i a) ++ rest ≡ take i l ++ a ∷ rest
-written_step l i a rest h = rw (add-one i, take-suc-set l i a h) (append_snoc (take i l) a rest)
+use lib.ListN.{length, get_or, take, drop, set}
 
 -- ---- two lists that agree as far as they are read
 

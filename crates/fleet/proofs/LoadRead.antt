@@ -7,25 +7,22 @@ use native.Mathlib.Omega.{arith}
 use borrow.Author.Tests.{lt-ltb}
 use lib.ListN.{length, get_or, drop}
 use lib.Seq.{drop-drop}
+use Rattle.std.specs.Prelude.{Ok}
 use Rattle.fleet.specs.declared.Answer.TheVariants.{Done}
 use Rattle.fleet.specs.declared.Fleet.{Fleet}
 use Rattle.fleet.specs.declared.Called.{Called}
 use Rattle.fleet.specs.declared.Read.{Read}
-use Rattle.fleet.specs.declared.Tick.TheVariants.{Shut}
 use Rattle.records.specs.Record.{blank, per_record}
 use Rattle.records.specs.File.{record_bytes, word_in, record_in, records_of, file_verdict}
 use Rattle.records.specs.declared.Record.{Record}
-use Rattle.records.specs.declared.Handed.{Handed}
 use Rattle.records.proofs.Decoding.{reader-decoded}
-use Rattle.refusals.specs.declared.Verdict.TheVariants.{Passed}
-use Rattle.refusals.specs.Verdict.{◌⊳◌}
+use Rattle.refusals.specs.Verdict.{◌⊳◌, passed}
 use Rattle.refusals.proofs.Verdicts.{both-passed}
 use Rattle.fleet.specs.Answer.{number}
-use Rattle.fleet.specs.Table.{agents, shut, has_agent, answer_to, read_call}
+use Rattle.fleet.specs.Table.{agents, holding_nothing, shut, has_agent, answer_to, read_call}
 use Rattle.fleet.specs.Load.{load_verdict, loaded, load_call}
 use Rattle.fleet.specs.Claims.{LoadRead, LoadReadWord, ReaderLoad, ReaderRead}
 use Rattle.records.proofs.Parts.{parts-length, part_at, words-of-record}
-use Rattle.fleet.proofs.Agents.{agents-holding}
 use Rattle.fleet.proofs.Verdicts.{settled-passes, settled-done}
 
 -- an accepted load hands back the fleet of the file
@@ -35,8 +32,8 @@ load-accepted fleet file e = settled-done (load_verdict fleet.tick file) fleet (
 
 -- its agents are the file's records
 pub load-agents : (fleet : Fleet) (file : List ℕ) → (load_call fleet file).answer ≡ Done → agents (load_call fleet file).fleet ≡ records_of file
-unfolding loaded
-load-agents fleet file e = ap (λ (called : Called). agents called.fleet) (load-accepted fleet file e) ∙ agents-holding Shut (records_of file)
+unfolding loaded holding_nothing
+load-agents fleet file e = ap (λ (called : Called). agents called.fleet) (load-accepted fleet file e)
 
 -- after an accepted load, a read of each record of the file is answered, with the words of its bytes
 pub load_read : LoadRead
@@ -55,7 +52,7 @@ load-read-word fleet file k j e h within =
 
 -- ---- a reader over the same file
 
-pub load-passed : (fleet : Fleet) (file : List ℕ) → (load_call fleet file).answer ≡ Done → file_verdict file ≡ Passed
+pub load-passed : (fleet : Fleet) (file : List ℕ) → (load_call fleet file).answer ≡ Done → file_verdict file ≡ passed
 unfolding load_call load_verdict
 load-passed fleet file e =
     (both-passed (shut fleet.tick) (file_verdict file) (settled-passes (shut fleet.tick ⊳ file_verdict file) fleet (loaded file) (ap number e))).1
@@ -65,9 +62,9 @@ pub reader-load : ReaderLoad
 reader-load fleet file k e h =
     let there : k < length (records_of file) = omega (arith, parts-length record_bytes record_in (length file / record_bytes) file) in
     reader-decoded file k (load-passed fleet file e) there
-    ∙ sym (ap (λ (rs : List Record). record { verdict = Passed; stored = get_or rs k blank }) (load-agents fleet file e))
+    ∙ sym (ap (λ (rs : List Record). Ok (get_or rs k blank)) (load-agents fleet file e))
 
 -- so its words are those that read gives back
 pub reader-read : ReaderRead
 unfolding read_call
-reader-read fleet file k e h = ap (λ (handed : Handed). handed.stored.words) (reader-load fleet file k e h)
+reader-read fleet file k e h = reader-load fleet file k e h

@@ -9,15 +9,15 @@ use lib.Dec.{ltb}
 use lib.Ieee.{Float}
 use lib.ListN.{length}
 use borrow.Author.Tests.{ltb-true}
+use Rattle.std.specs.Prelude.{Option, Some, None, Err}
 use Rattle.vectors.specs.Number.{◌>ᶠ◌, finite, zero as zero32}
+use Rattle.refusals.specs.Verdict.{passed}
 use Rattle.refusals.specs.declared.Refusal.TheVariants.{NotFinite, OutOfRange, NoAgent}
-use Rattle.refusals.specs.declared.Verdict.TheVariants.{Passed, Refused}
 use Rattle.refusals.proofs.Verdicts.{not-passed}
 use Rattle.requests.specs.declared.Kind.TheVariants.{Positive}
-use Rattle.requests.specs.declared.Reply.{Reply}
 use Rattle.requests.specs.Request.{time_step_place}
 use Rattle.requests.specs.Checks.{outside}
-use Rattle.requests.specs.Reply.{number, renamed}
+use Rattle.requests.specs.Reply.{number, renamed, Reply}
 use Rattle.requests.proofs.Ranges.{above_zero}
 use Rattle.requests.proofs.ReplyLaws.{renamed-number, renamed-place}
 use Rattle.requests.proofs.checks.CallNumbers.{Allowed, FitAgent}
@@ -32,7 +32,6 @@ use Rattle.planner.proofs.Replies.{reply-is}
 use Rattle.planner.proofs.FitPlans.{request-fit, neighbours-fit}
 use Rattle.fleet.specs.declared.Answer.TheVariants as answer
 use Rattle.fleet.specs.declared.Tick.{Tick}
-use Rattle.fleet.specs.declared.Tick.TheVariants.{Shut, Open}
 use Rattle.fleet.specs.declared.Fleet.{Fleet}
 use Rattle.fleet.specs.Table.{agents, settled, has_agent}
 use Rattle.fleet.specs.Tick.{step_verdict}
@@ -43,12 +42,12 @@ use Rattle.fleet.specs.Claims.{PlanPassesOn}
 
 -- ---- what the velocity call is given
 
-step-allowed : (time_step : Float) → step_verdict time_step ≡ Passed → Allowed Positive time_step
+step-allowed : (time_step : Float) → step_verdict time_step ≡ passed → Allowed Positive time_step
 unfolding step_verdict
 step-allowed time_step = go (finite time_step) (time_step >ᶠ zero32) (above_zero time_step)
   where
     go : (a b : Bool) → (b ≡ true → outside Positive time_step ≡ false)
-        → cond a (cond b Passed (Refused (OutOfRange time_step_place))) (Refused (NotFinite time_step_place)) ≡ Passed → (a ≡ true) × (outside Positive time_step ≡ false)
+        → cond a (cond b passed (Err (OutOfRange time_step_place))) (Err (NotFinite time_step_place)) ≡ passed → (a ≡ true) × (outside Positive time_step ≡ false)
     go true true inside e = (refl, inside refl)
     go true false inside e = not-passed e
     go false b inside e = not-passed e
@@ -73,7 +72,7 @@ module _ (fleet : Fleet) (sound : Sound fleet) (index k : ℕ) where
   abbrev rs : List Record
   rs = agents fleet
 
-  reply-passes : (time_step : Float) (rule : Rule) → step_verdict time_step ≡ Passed → index < length rs → PassesOn (answer.Plan (reply_for time_step rule rs index k))
+  reply-passes : (time_step : Float) (rule : Rule) → step_verdict time_step ≡ passed → index < length rs → PassesOn (answer.Plan (reply_for time_step rule rs index k))
   reply-passes time_step rule accepted there =
       let names = neighbour_indices rule rs index in
       let own = own_record rs index in
@@ -84,18 +83,18 @@ module _ (fleet : Fleet) (sound : Sound fleet) (index k : ℕ) where
       (request-fit own time_step stored.passes stored.words (step-allowed time_step accepted)) (neighbours-fit rule rs index (λ i below. stored-agent _ (sound.stored i below)))
       (omega (arith, sound.few, (few-neighbours rule rs index there).1))))
 
-  open-passes : (time_step : Float) (rule : Rule) → step_verdict time_step ≡ Passed → PassesOn (plan_open time_step rule fleet index k).answer
+  open-passes : (tick : Tick) → step_verdict tick.time_step ≡ passed → PassesOn (plan_open tick fleet index k).answer
   unfolding plan_open has_agent answered_by
-  open-passes time_step rule accepted = go (ltb index (length rs)) refl
+  open-passes tick accepted = go (ltb index (length rs)) refl
     where
-      go : (b : Bool) → ltb index (length rs) ≡ b → PassesOn (answered_by (cond b Passed (Refused (NoAgent index))) fleet index (reply_for time_step rule rs index k)).answer
-      go true is = reply-passes time_step rule accepted (ltb-true index (length rs) is)
+      go : (b : Bool) → ltb index (length rs) ≡ b → PassesOn (answered_by (cond b passed (Err (NoAgent index))) fleet index (reply_for tick.time_step tick.rule rs index k)).answer
+      go true is = reply-passes tick.time_step tick.rule accepted (ltb-true index (length rs) is)
       go false is = PassesOn.no_agent refl
 
-  tick-passes : (tick : Tick) → Ticking tick → PassesOn (plan_in tick fleet index k).answer
+  tick-passes : (tick : Option Tick) → Ticking tick → PassesOn (plan_in tick fleet index k).answer
   unfolding plan_in settled
-  tick-passes Shut ticking = PassesOn.no_tick refl
-  tick-passes (Open time_step rule) ticking = open-passes time_step rule ticking
+  tick-passes None ticking = PassesOn.no_tick refl
+  tick-passes (Some tick) ticking = open-passes tick ticking
 
 pub plan-passes-on : PlanPassesOn
 unfolding step plan_call

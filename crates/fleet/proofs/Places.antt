@@ -7,25 +7,22 @@ use lib.Dec.{ltb, eqb}
 use lib.ListN.{length, take}
 use lib.Ieee.{Float}
 use borrow.Author.Tests.{eqb-true, eqb-false}
+use Rattle.std.specs.Prelude.{Option, Some, None, Ok, Err}
 use Rattle.vectors.specs.declared.Vec3.{Vec3}
 use Rattle.vectors.specs.Number.{◌>ᶠ◌, finite, zero as zero32}
 use Rattle.vectors.specs.Vec3.{zero_vec}
-use Rattle.refusals.specs.declared.Found.TheVariants.{At, Nothing}
 use Rattle.refusals.specs.declared.Refusal.{Refusal}
 use Rattle.refusals.specs.declared.Refusal.TheVariants as refusal
-use Rattle.refusals.specs.declared.Verdict.{Verdict}
-use Rattle.refusals.specs.declared.Verdict.TheVariants.{Passed, Refused}
 use Rattle.refusals.specs.Refusal as refusals
 use Rattle.refusals.specs.Conditions.{first_bad}
-use Rattle.refusals.specs.Verdict.{◌⊳◌, refused_if, refused_at}
+use Rattle.refusals.specs.Verdict.{◌⊳◌, refused_if, refused_at, Verdict, passed}
 use Rattle.refusals.proofs.Conditions.{first_of, first-none, found-lowest}
 use Rattle.refusals.proofs.Verdicts.{Gives, gives_then, gives-held, gives_found}
-use Rattle.requests.specs.declared.Reply.{Reply}
 use Rattle.requests.specs.declared.Asked.TheVariants.{Finite}
 use Rattle.requests.specs.Request.{time_step_place}
 use Rattle.requests.specs.Checks.{bad_number}
 use Rattle.requests.specs.Reply as reply
-use Rattle.requests.specs.Reply.{renamed}
+use Rattle.requests.specs.Reply.{renamed, Reply}
 use Rattle.requests.proofs.ReplyLaws.{renamed-number, renamed-place, bad-plane-renamed}
 use Rattle.requests.proofs.checks.CallNumbers.{bad-if-not-finite}
 use Rattle.avoidance.proofs.velocity.Places.{places-by-answer}
@@ -38,9 +35,7 @@ use Rattle.planner.specs.declared.Rule.{Rule}
 use Rattle.planner.specs.Plan.{neighbour_indices, reply_for}
 use Rattle.planner.proofs.Replies.{reply-is}
 use Rattle.fleet.specs.declared.Answer.{Answer}
-use Rattle.fleet.specs.declared.Held.TheVariants as held
 use Rattle.fleet.specs.declared.Tick.{Tick}
-use Rattle.fleet.specs.declared.Tick.TheVariants.{Shut, Open}
 use Rattle.fleet.specs.declared.Fleet.{Fleet}
 use Rattle.fleet.specs.Answer.{number, place_of}
 use Rattle.fleet.specs.Table.{agents, settled, shut, has_agent, room, add_verdict, add_call, put_verdict, put_call, remove_verdict, remove_call, answer_to, read_call}
@@ -63,23 +58,23 @@ module _ (fleet : Fleet) (call : Call) where
 
   settled-placed : (v : Verdict) (next : Fleet) → Gives Of v → Answers (settled v fleet next).answer
   unfolding settled
-  settled-placed Passed next gives = Placed.of-0 call
-  settled-placed (Refused why) next gives = gives
+  settled-placed (Ok _) next gives = Placed.of-0 call
+  settled-placed (Err why) next gives = gives
 
   told-placed : (v : Verdict) → Gives Of v → Answers (answer_to v)
   unfolding answer_to
-  told-placed Passed gives = Placed.of-0 call
-  told-placed (Refused why) gives = gives
+  told-placed (Ok _) gives = Placed.of-0 call
+  told-placed (Err why) gives = gives
 
-  shut-gives : (tick : Tick) → Gives Of (shut tick)
+  shut-gives : (tick : Option Tick) → Gives Of (shut tick)
   unfolding shut
-  shut-gives Shut = tt
-  shut-gives (Open time_step rule) = Placed.of-10 call
+  shut-gives None = tt
+  shut-gives (Some tick) = Placed.of-10 call
 
-  opened-gives : (tick : Tick) → Gives Of (opened tick)
+  opened-gives : (tick : Option Tick) → Gives Of (opened tick)
   unfolding opened
-  opened-gives Shut = Placed.of-11 call
-  opened-gives (Open time_step rule) = tt
+  opened-gives None = Placed.of-11 call
+  opened-gives (Some tick) = tt
 
   -- one of so many, where the call's place for 8 is the index
   among-gives : (count index : ℕ) → Placed fleet call 8 index → Gives Of (index_among count index)
@@ -90,16 +85,16 @@ module _ (fleet : Fleet) (call : Call) where
   agent-gives index q = among-gives (length (agents fleet)) index q
 
   -- outside a tick, and then as the next check gives
-  shut-then : (tick : Tick) (v : Verdict) (next : Fleet) → Gives Of v → Answers (settled (shut tick ⊳ v) fleet next).answer
+  shut-then : (tick : Option Tick) (v : Verdict) (next : Fleet) → Gives Of v → Answers (settled (shut tick ⊳ v) fleet next).answer
   shut-then tick v next gives = settled-placed (shut tick ⊳ v) next (gives_then Of (shut tick) v (shut-gives tick) gives)
 
   -- a record's, where the call's places are its
-  record-gives : (r : Record) → ((why : Refusal) → record_verdict 0 r ≡ Refused why → Of why) → Gives Of (record_verdict 0 r)
+  record-gives : (r : Record) → ((why : Refusal) → record_verdict 0 r ≡ Err why → Of why) → Gives Of (record_verdict 0 r)
   record-gives r q = go (record_verdict 0 r) refl
     where
       go : (v : Verdict) → record_verdict 0 r ≡ v → Gives Of v
-      go Passed is = tt
-      go (Refused why) is = q why is
+      go (Ok _) is = tt
+      go (Err why) is = q why is
 
 room-gives : (fleet : Fleet) (words : List ℕ) (count : ℕ) → Gives (Of fleet (Call.add words)) (room count)
 unfolding room
@@ -109,14 +104,14 @@ file-gives : (fleet : Fleet) (file : List ℕ) → Gives (Of fleet (Call.load fi
 file-gives fleet file = go (file_verdict file) refl
   where
     go : (v : Verdict) → file_verdict file ≡ v → Gives (Of fleet (Call.load file)) v
-    go Passed is = tt
-    go (Refused why) is = Placed.load-file file (refusals.number why) (refusals.place_of why) (file-places file why is)
+    go (Ok _) is = tt
+    go (Err why) is = Placed.load-file file (refusals.number why) (refusals.place_of why) (file-places file why is)
 
 step_gives : (fleet : Fleet) (time_step : Float) (rule : Rule) → Gives (Of fleet (Call.start time_step rule)) (step_verdict time_step)
 unfolding step_verdict
 step_gives fleet time_step rule = go (finite time_step) (time_step >ᶠ zero32)
   where
-    go : (b c : Bool) → Gives (Of fleet (Call.start time_step rule)) (cond b (cond c Passed (Refused (refusal.OutOfRange time_step_place))) (Refused (refusal.NotFinite time_step_place)))
+    go : (b c : Bool) → Gives (Of fleet (Call.start time_step rule)) (cond b (cond c passed (Err (refusal.OutOfRange time_step_place))) (Err (refusal.NotFinite time_step_place)))
     go true true = tt
     go true false = Placed.open-4 time_step rule
     go false c = Placed.open-3 time_step rule
@@ -126,7 +121,7 @@ goal-first : (v : Vec3) → goal_fault v ≡ first_bad (bad_number Finite) goal_
 unfolding goal_fault
 goal-first v = simp (first_of (bad_number Finite), first-none (bad_number Finite), bad-if-not-finite) (go (finite v.x) (finite v.y) (finite v.z))
   where
-    go : (a b c : Bool) → cond a (cond b (cond c Nothing (At (goal_word + 2))) (At (goal_word + 1))) (At goal_word) ≡ cond (not a) (At 8) (cond (not b) (At 9) (cond (not c) (At 10) Nothing))
+    go : (a b c : Bool) → cond a (cond b (cond c None (Some (goal_word + 2))) (Some (goal_word + 1))) (Some goal_word) ≡ cond (not a) (Some 8) (cond (not b) (Some 9) (cond (not c) (Some 10) None))
     go true true true = refl
     go true true false = refl
     go true false c = refl
@@ -139,24 +134,24 @@ goal-gives fleet index v =
 
 -- ---- close and plan
 
-close-placed : (fleet : Fleet) (tick : Tick) → fleet.tick ≡ tick → Answers fleet Call.close (close_in tick fleet).answer
+close-placed : (fleet : Fleet) (tick : Option Tick) → fleet.tick ≡ tick → Answers fleet Call.close (close_in tick fleet).answer
 unfolding close_in close_open close_verdict
-close-placed fleet Shut is = settled-placed fleet Call.close (Refused refusal.NoTick) fleet (Placed.of-11 Call.close)
-close-placed fleet (Open time_step rule) is =
+close-placed fleet None is = settled-placed fleet Call.close (Err refusal.NoTick) fleet (Placed.of-11 Call.close)
+close-placed fleet (Some tick) is =
     let Q = Of fleet Call.close in
     let planless = first_bad unplanned 0 (take (length (agents fleet)) fleet.plans) in
-    let lost = first_bad astray 0 (arrivals time_step (agents fleet) fleet.plans) in
+    let lost = first_bad astray 0 (arrivals tick.time_step (agents fleet) fleet.plans) in
     settled-placed fleet Call.close (refused_at planless refusal.Unplanned ⊳ refused_at lost refusal.PositionNotFinite) _
     (gives_then Q (refused_at planless refusal.Unplanned) (refused_at lost refusal.PositionNotFinite)
-    (gives_found Q planless refusal.Unplanned (λ agent e. Placed.close-12 agent (found-lowest unplanned 0 _ (record { held = held.Nothing }) agent e)))
-    (gives_found Q lost refusal.PositionNotFinite (λ agent e. Placed.close-13 time_step rule is agent (found-lowest astray 0 _ zero_vec agent e))))
+    (gives_found Q planless refusal.Unplanned (λ agent e. Placed.close-12 agent (found-lowest unplanned 0 _ None agent e)))
+    (gives_found Q lost refusal.PositionNotFinite (λ agent e. Placed.close-13 tick is agent (found-lowest astray 0 _ zero_vec agent e))))
 
-module _ (fleet : Fleet) (time_step : Float) (rule : Rule) (is : fleet.tick ≡ Open time_step rule) (index : ℕ) (scratch : List Float) where
+module _ (fleet : Fleet) (tick : Tick) (is : fleet.tick ≡ Some tick) (index : ℕ) (scratch : List Float) where
   abbrev names : List ℕ
-  names = neighbour_indices rule (agents fleet) index
+  names = neighbour_indices tick.rule (agents fleet) index
 
   abbrev replied : Reply
-  replied = plan_reply fleet time_step rule index scratch
+  replied = plan_reply fleet tick.time_step tick.rule index scratch
 
   abbrev OfPlan : ℕ → ℕ → Type 0
   OfPlan n place = Placed fleet (Call.plan index scratch) n place
@@ -169,24 +164,24 @@ module _ (fleet : Fleet) (time_step : Float) (rule : Rule) (is : fleet.tick ≡ 
           let e = eqb-true (reply.number replied) 6 six in
           subst (λ (n : ℕ). OfPlan n (reply.place_of (renamed names replied))) (sym (renamed-number names replied ∙ e))
           (subst (OfPlan 6) (sym (bad-plane-renamed names replied e))
-          (Placed.plan-6 time_step rule index scratch is (reply.place_of replied) ((places-by-answer (plan_request fleet time_step index) (plan_neighbours fleet rule index) (length scratch)).of-6 e _)))
+          (Placed.plan-6 tick index scratch is (reply.place_of replied) ((places-by-answer (plan_request fleet tick.time_step index) (plan_neighbours fleet tick.rule index) (length scratch)).of-6 e _)))
       go false six =
           let other = eqb-false (reply.number replied) 6 six in
           subst (λ (n : ℕ). OfPlan n (reply.place_of (renamed names replied))) (sym (renamed-number names replied))
-          (subst (OfPlan (reply.number replied)) (sym (renamed-place names replied other)) (Placed.plan-passes time_step rule index scratch is other))
+          (subst (OfPlan (reply.number replied)) (sym (renamed-place names replied other)) (Placed.plan-passes tick index scratch is other))
 
   answered-placed : (v : Verdict) → Gives (Of fleet (Call.plan index scratch)) v
-      → Answers fleet (Call.plan index scratch) (answered_by v fleet index (reply_for time_step rule (agents fleet) index (length scratch))).answer
+      → Answers fleet (Call.plan index scratch) (answered_by v fleet index (reply_for tick.time_step tick.rule (agents fleet) index (length scratch))).answer
   unfolding answered_by
-  answered-placed Passed gives = subst (λ (r : Reply). OfPlan (reply.number r) (reply.place_of r)) (sym (reply-is time_step rule (agents fleet) index (length scratch))) reply-placed
-  answered-placed (Refused why) gives = gives
+  answered-placed (Ok _) gives = subst (λ (r : Reply). OfPlan (reply.number r) (reply.place_of r)) (sym (reply-is tick.time_step tick.rule (agents fleet) index (length scratch))) reply-placed
+  answered-placed (Err why) gives = gives
 
-plan-placed : (fleet : Fleet) (index : ℕ) (scratch : List Float) (tick : Tick) → fleet.tick ≡ tick
+plan-placed : (fleet : Fleet) (index : ℕ) (scratch : List Float) (tick : Option Tick) → fleet.tick ≡ tick
     → Answers fleet (Call.plan index scratch) (plan_in tick fleet index (length scratch)).answer
 unfolding plan_in plan_open
-plan-placed fleet index scratch Shut is = settled-placed fleet (Call.plan index scratch) (Refused refusal.NoTick) fleet (Placed.of-11 (Call.plan index scratch))
-plan-placed fleet index scratch (Open time_step rule) is =
-    answered-placed fleet time_step rule is index scratch (has_agent fleet index) (agent-gives fleet (Call.plan index scratch) index (Placed.plan-8 index scratch))
+plan-placed fleet index scratch None is = settled-placed fleet (Call.plan index scratch) (Err refusal.NoTick) fleet (Placed.of-11 (Call.plan index scratch))
+plan-placed fleet index scratch (Some tick) is =
+    answered-placed fleet tick is index scratch (has_agent fleet index) (agent-gives fleet (Call.plan index scratch) index (Placed.plan-8 index scratch))
 
 -- ---- every call
 

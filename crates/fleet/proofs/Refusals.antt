@@ -14,22 +14,19 @@ use lib.Dec.{leb, ltb}
 use lib.ListN.{length, take}
 use lib.Ieee.{Float}
 use borrow.Author.Tests.{ltb-true, ltb-false, le-leb, lt-leb}
+use Rattle.std.specs.Prelude.{Option, Some, None, Ok, Err}
 use Rattle.vectors.specs.declared.Vec3.{Vec3}
 use Rattle.vectors.specs.Number.{◌>ᶠ◌, finite, zero as zero32}
 use Rattle.vectors.specs.Vec3.{finite_vec}
 use Rattle.vectors.proofs.Finite.{finite-are}
 use Rattle.vectors.proofs.Truth.{no_truth}
-use Rattle.refusals.specs.declared.Found.{Found}
-use Rattle.refusals.specs.declared.Found.TheVariants.{At, Nothing}
 use Rattle.refusals.specs.declared.Refusal.TheVariants as refusal
-use Rattle.refusals.specs.declared.Verdict.{Verdict}
-use Rattle.refusals.specs.declared.Verdict.TheVariants.{Passed, Refused}
 use Rattle.refusals.specs.Refusal as refusals
 use Rattle.refusals.specs.Conditions.{first_holding, is_found, some, marked, first_bad}
-use Rattle.refusals.specs.Verdict.{◌⊳◌, refused_if, refused_at}
+use Rattle.refusals.specs.Verdict.{◌⊳◌, refused_if, refused_at, Verdict, passed}
 use Rattle.refusals.proofs.Conditions.{no_place, index_of, or_else, holding-append, found_as}
 use Rattle.refusals.proofs.Verdicts.{not-answered, said, Says, then, held-says, tested-says, found-says}
-use Rattle.requests.specs.declared.Reply.{Reply}
+use Rattle.requests.specs.Reply.{Reply}
 use Rattle.requests.specs.Reply as reply
 use Rattle.requests.proofs.ReplyLaws.{refused_with, number-refused, renamed-refused}
 use Rattle.requests.proofs.ReplyLaws as of-reply
@@ -47,9 +44,7 @@ use Rattle.planner.specs.Plan.{request_for, own_record, neighbour_indices, neigh
 use Rattle.planner.proofs.Replies.{reply-is}
 use Rattle.fleet.specs.declared.Answer.{Answer}
 use Rattle.fleet.specs.declared.Answer.TheVariants as answer
-use Rattle.fleet.specs.declared.Slot.{Slot}
 use Rattle.fleet.specs.declared.Tick.{Tick}
-use Rattle.fleet.specs.declared.Tick.TheVariants.{Shut, Open}
 use Rattle.fleet.specs.declared.Fleet.{Fleet}
 use Rattle.fleet.specs.Answer.{number}
 use Rattle.fleet.specs.Table.{agents, settled, shut, has_agent, room, add_verdict, add_call, put_verdict, put_call, remove_verdict, remove_call, answer_to, read_call}
@@ -63,15 +58,15 @@ use Rattle.fleet.proofs.Verdicts.{settled-kept}
 
 -- ---- the verdicts of single checks
 
-shut-says : (tick : Tick) → Says (shut tick) ((10, is_open tick) ∷ [])
-unfolding shut is_open
-shut-says Shut = held-says false refusal.TickOpen
-shut-says (Open time_step rule) = held-says true refusal.TickOpen
+shut-says : (tick : Option Tick) → Says (shut tick) ((10, is_open tick) ∷ [])
+unfolding shut
+shut-says None = held-says false refusal.TickOpen
+shut-says (Some tick) = held-says true refusal.TickOpen
 
-opened-says : (tick : Tick) → Says (opened tick) ((11, not (is_open tick)) ∷ [])
-unfolding opened is_open
-opened-says Shut = held-says true refusal.NoTick
-opened-says (Open time_step rule) = held-says false refusal.NoTick
+opened-says : (tick : Option Tick) → Says (opened tick) ((11, not (is_open tick)) ∷ [])
+unfolding opened
+opened-says None = held-says true refusal.NoTick
+opened-says (Some tick) = held-says false refusal.NoTick
 
 index-says : (fleet : Fleet) (index : ℕ) → Says (index_among (length (agents fleet)) index) ((8, no_agent fleet index) ∷ [])
 unfolding no_agent
@@ -93,11 +88,11 @@ step-says : (time_step : Float) → Says (step_verdict time_step) ((3, not (fini
 unfolding step_verdict
 step-says time_step = go (finite time_step) (time_step >ᶠ zero32)
   where
-    go : (b c : Bool) → Says (cond b (cond c Passed (Refused (refusal.OutOfRange 12))) (Refused (refusal.NotFinite 12))) ((3, not b) ∷ (4, not c) ∷ [])
-    go true true = then Passed Passed ((3, false) ∷ []) ((4, false) ∷ []) (held-says false (refusal.NotFinite 12)) (held-says false (refusal.OutOfRange 12))
-    go true false = then Passed (Refused (refusal.OutOfRange 12)) ((3, false) ∷ []) ((4, true) ∷ []) (held-says false (refusal.NotFinite 12)) (held-says true (refusal.OutOfRange 12))
-    go false true = then (Refused (refusal.NotFinite 12)) Passed ((3, true) ∷ []) ((4, false) ∷ []) (held-says true (refusal.NotFinite 12)) (held-says false (refusal.OutOfRange 12))
-    go false false = then (Refused (refusal.NotFinite 12)) (Refused (refusal.OutOfRange 12)) ((3, true) ∷ []) ((4, true) ∷ []) (held-says true (refusal.NotFinite 12)) (held-says true (refusal.OutOfRange 12))
+    go : (b c : Bool) → Says (cond b (cond c passed (Err (refusal.OutOfRange 12))) (Err (refusal.NotFinite 12))) ((3, not b) ∷ (4, not c) ∷ [])
+    go true true = then passed passed ((3, false) ∷ []) ((4, false) ∷ []) (held-says false (refusal.NotFinite 12)) (held-says false (refusal.OutOfRange 12))
+    go true false = then passed (Err (refusal.OutOfRange 12)) ((3, false) ∷ []) ((4, true) ∷ []) (held-says false (refusal.NotFinite 12)) (held-says true (refusal.OutOfRange 12))
+    go false true = then (Err (refusal.NotFinite 12)) passed ((3, true) ∷ []) ((4, false) ∷ []) (held-says true (refusal.NotFinite 12)) (held-says false (refusal.OutOfRange 12))
+    go false false = then (Err (refusal.NotFinite 12)) (Err (refusal.OutOfRange 12)) ((3, true) ∷ []) ((4, true) ∷ []) (held-says true (refusal.NotFinite 12)) (held-says true (refusal.OutOfRange 12))
 
 goal-says : (v : Vec3) → Says (refused_at (goal_fault v) refusal.NotFinite) ((3, not (finite_vec v)) ∷ [])
 unfolding goal_fault
@@ -105,13 +100,13 @@ goal-says v =
     found-says (goal_fault v) refusal.NotFinite 3 (not (finite_vec v)) (λ place. refl)
     (go (finite v.x) (finite v.y) (finite v.z) ∙ ap not (sym (finite-are v)))
   where
-    go : (a b c : Bool) → is_found (cond a (cond b (cond c Nothing (At 10)) (At 9)) (At 8)) ≡ not (a && b && c)
+    go : (a b c : Bool) → is_found (cond a (cond b (cond c None (Some 10)) (Some 9)) (Some 8)) ≡ not (a && b && c)
     go true true true = refl
     go true true false = refl
     go true false c = refl
     go false b c = refl
 
-close-says : (time_step : Float) (rs : List Record) (plans : List Slot)
+close-says : (time_step : Float) (rs : List Record) (plans : List (Option Vec3))
     → Says (close_verdict time_step rs plans) ((12, some (marked unplanned 0 (take (length rs) plans))) ∷ (13, some (marked astray 0 (arrivals time_step rs plans))) ∷ [])
 unfolding close_verdict
 close-says time_step rs plans =
@@ -124,47 +119,47 @@ close-says time_step rs plans =
 -- ---- what an answer says
 
 -- the number of its refusal
-abbrev refusal_in : Answer → Found
-refusal_in answer.Done = Nothing
+abbrev refusal_in : Answer → Option ℕ
+refusal_in answer.Done = None
 refusal_in (answer.Plan replied) = refused_with replied
-refusal_in (answer.Refused r) = At (refusals.number r)
+refusal_in (answer.Refused r) = Some (refusals.number r)
 
 settled_says : (v : Verdict) (fleet next : Fleet) (cs : List (ℕ × Bool)) → Says v cs → refusal_in (settled v fleet next).answer ≡ first_holding cs
 unfolding settled
-settled_says Passed fleet next cs e = e
-settled_says (Refused r) fleet next cs e = e
+settled_says (Ok _) fleet next cs e = e
+settled_says (Err r) fleet next cs e = e
 
 read-says : (v : Verdict) (cs : List (ℕ × Bool)) → Says v cs → refusal_in (answer_to v) ≡ first_holding cs
 unfolding answer_to
-read-says Passed cs e = e
-read-says (Refused r) cs e = e
+read-says (Ok _) cs e = e
+read-says (Err r) cs e = e
 
 answered-says : (v : Verdict) (fleet : Fleet) (index : ℕ) (r : Reply) (cs ds : List (ℕ × Bool)) → Says v cs → refused_with r ≡ first_holding ds
     → refusal_in (answered_by v fleet index r).answer ≡ first_holding (cs ++ ds)
 unfolding answered_by
-answered-says v fleet index r cs ds e f = first v ∙ ap (λ (found : Found). or_else found (refused_with r)) e ∙ ap (or_else (first_holding cs)) f ∙ sym (holding-append cs ds)
+answered-says v fleet index r cs ds e f = first v ∙ ap (λ (found : Option ℕ). or_else found (refused_with r)) e ∙ ap (or_else (first_holding cs)) f ∙ sym (holding-append cs ds)
   where
     first : (v : Verdict) → refusal_in (answered_by v fleet index r).answer ≡ or_else (said v) (refused_with r)
-    first Passed = refl
-    first (Refused r') = refl
+    first (Ok _) = refl
+    first (Err r') = refl
 
-plan-says : (tick : Tick) (fleet : Fleet) (index k : ℕ) → refusal_in (plan_in tick fleet index k).answer ≡ first_holding (plan_conditions velocity_conditions tick fleet index k)
+plan-says : (tick : Option Tick) (fleet : Fleet) (index k : ℕ) → refusal_in (plan_in tick fleet index k).answer ≡ first_holding (plan_conditions velocity_conditions tick fleet index k)
 unfolding plan_in plan_open plan_conditions
-plan-says Shut fleet index k = settled_says (Refused refusal.NoTick) fleet fleet ((11, true) ∷ []) (held-says true refusal.NoTick)
-plan-says (Open time_step rule) fleet index k =
-    let asked = request_for (own_record (agents fleet) index) time_step in
-    let neighbours = neighbours_of rule (agents fleet) index in
+plan-says None fleet index k = settled_says (Err refusal.NoTick) fleet fleet ((11, true) ∷ []) (held-says true refusal.NoTick)
+plan-says (Some tick) fleet index k =
+    let asked = request_for (own_record (agents fleet) index) tick.time_step in
+    let neighbours = neighbours_of tick.rule (agents fleet) index in
     answered-says (has_agent fleet index) fleet index _ ((8, no_agent fleet index) ∷ []) (velocity_conditions asked neighbours k) (agent-says fleet index)
-    (ap refused_with (reply-is time_step rule (agents fleet) index k) ∙ renamed-refused (neighbour_indices rule (agents fleet) index) (velocity_call asked neighbours k) ∙ by-conditions asked neighbours k)
+    (ap refused_with (reply-is tick.time_step tick.rule (agents fleet) index k) ∙ renamed-refused (neighbour_indices tick.rule (agents fleet) index) (velocity_call asked neighbours k) ∙ by-conditions asked neighbours k)
 
-close-call-says : (tick : Tick) (fleet : Fleet) → refusal_in (close_in tick fleet).answer ≡ first_holding (close_conditions tick fleet)
+close-call-says : (tick : Option Tick) (fleet : Fleet) → refusal_in (close_in tick fleet).answer ≡ first_holding (close_conditions tick fleet)
 unfolding close_in close_open close_conditions
-close-call-says Shut fleet = settled_says (Refused refusal.NoTick) fleet fleet ((11, true) ∷ []) (held-says true refusal.NoTick)
-close-call-says (Open time_step rule) fleet =
-    settled_says (close_verdict time_step (agents fleet) fleet.plans) fleet _ _ (close-says time_step (agents fleet) fleet.plans)
+close-call-says None fleet = settled_says (Err refusal.NoTick) fleet fleet ((11, true) ∷ []) (held-says true refusal.NoTick)
+close-call-says (Some tick) fleet =
+    settled_says (close_verdict tick.time_step (agents fleet) fleet.plans) fleet _ _ (close-says tick.time_step (agents fleet) fleet.plans)
 
 -- outside a tick, and then as what comes after says
-shut-then : (tick : Tick) (fleet next : Fleet) (v : Verdict) (cs : List (ℕ × Bool)) → Says v cs
+shut-then : (tick : Option Tick) (fleet next : Fleet) (v : Verdict) (cs : List (ℕ × Bool)) → Says v cs
     → refusal_in (settled (shut tick ⊳ v) fleet next).answer ≡ first_holding ((10, is_open tick) ∷ cs)
 shut-then tick fleet next v cs e = settled_says (shut tick ⊳ v) fleet next _ (then (shut tick) v ((10, is_open tick) ∷ []) cs (shut-says tick) e)
 
@@ -198,13 +193,13 @@ call-says fleet Call.drop = settled_says (opened fleet.tick) fleet _ _ (opened-s
 -- ---- the theorems
 
 -- an answer has the number n + 1 exactly where it is refused with it
-numbered : (given : Answer) (n : ℕ) → (number given ≡ suc n) ↔ (refusal_in given ≡ At (suc n))
+numbered : (given : Answer) (n : ℕ) → (number given ≡ suc n) ↔ (refusal_in given ≡ Some (suc n))
 numbered answer.Done n = (λ e. absurd (omega arith), λ e. no_place e)
 numbered (answer.Plan replied) n = of-reply.numbered replied n
-numbered (answer.Refused r) n = (λ e. ap At e, λ e. ap index_of e)
+numbered (answer.Refused r) n = (λ e. ap Some e, λ e. ap index_of e)
 
 -- and the number 0 exactly where it is not refused
-unrefused : (given : Answer) → (number given ≡ 0) ↔ (refusal_in given ≡ Nothing)
+unrefused : (given : Answer) → (number given ≡ 0) ↔ (refusal_in given ≡ None)
 unrefused answer.Done = (λ e. refl, λ e. refl)
 unrefused (answer.Plan replied) = of-reply.unrefused replied
 unrefused (answer.Refused r) = (λ e. absurd (not-answered r e), λ e. no_place (sym e))
@@ -220,28 +215,28 @@ answered-exactly fleet call =
     let (to, from) = unrefused (step fleet call).answer in
     (λ e. ap is_found (sym (call-says fleet call) ∙ to e), λ none. from (call-says fleet call ∙ nothing (first_holding (call_conditions fleet call)) none))
   where
-    nothing : (found : Found) → is_found found ≡ false → found ≡ Nothing
-    nothing (At n) e = no_truth (sym e)
-    nothing Nothing e = refl
+    nothing : (found : Option ℕ) → is_found found ≡ false → found ≡ None
+    nothing (Some n) e = no_truth (sym e)
+    nothing None e = refl
 
 -- ---- 17 and 18 refuse the plans that document 01's 1 and 7 refused
 
 held-before : (n : ℕ) (b : Bool) (cs : List (ℕ × Bool)) → first_holding ((n, b) ∷ cs) ≡ or_else (first_holding ((n, b) ∷ [])) (first_holding cs)
 held-before n b cs = holding-append ((n, b) ∷ []) cs
 
-plan-document-one : (tick : Tick) (fleet : Fleet) (index k : ℕ) → first_holding (plan_conditions document_one_conditions tick fleet index k) ≡ found_as document_one (first_holding (plan_conditions velocity_conditions tick fleet index k))
+plan-document-one : (tick : Option Tick) (fleet : Fleet) (index k : ℕ) → first_holding (plan_conditions document_one_conditions tick fleet index k) ≡ found_as document_one (first_holding (plan_conditions velocity_conditions tick fleet index k))
 unfolding plan_conditions
-plan-document-one Shut fleet index k = sym (held-says true refusal.NoTick) ∙ ap (found_as document_one) (held-says true refusal.NoTick)
-plan-document-one (Open time_step rule) fleet index k =
-    let asked = request_for (own_record (agents fleet) index) time_step in
-    let neighbours = neighbours_of rule (agents fleet) index in
+plan-document-one None fleet index k = sym (held-says true refusal.NoTick) ∙ ap (found_as document_one) (held-says true refusal.NoTick)
+plan-document-one (Some tick) fleet index k =
+    let asked = request_for (own_record (agents fleet) index) tick.time_step in
+    let neighbours = neighbours_of tick.rule (agents fleet) index in
     held-before 8 (no_agent fleet index) _
     ∙ go (first_holding ((8, no_agent fleet index) ∷ [])) _ _ (document-one-holding asked neighbours k) (kept (no_agent fleet index))
     ∙ ap (found_as document_one) (sym (held-before 8 (no_agent fleet index) _))
   where
-    go : (found after after' : Found) → after ≡ found_as document_one after' → found_as document_one found ≡ found → or_else found after ≡ found_as document_one (or_else found after')
-    go (At n) after after' e kept = sym kept
-    go Nothing after after' e kept = e
+    go : (found after after' : Option ℕ) → after ≡ found_as document_one after' → found_as document_one found ≡ found → or_else found after ≡ found_as document_one (or_else found after')
+    go (Some n) after after' e kept = sym kept
+    go None after after' e kept = e
 
     kept : (b : Bool) → found_as document_one (first_holding ((8, b) ∷ [])) ≡ first_holding ((8, b) ∷ [])
     kept true = ap (found_as document_one) (sym (held-says true (refusal.NoAgent index))) ∙ held-says true (refusal.NoAgent index)
@@ -267,18 +262,18 @@ reply-kept fleet index r refused = rw (number-refused r refused)
 
 answered-kept : (v : Verdict) (fleet : Fleet) (index : ℕ) (r : Reply) → (number (answered_by v fleet index r).answer ≡ 0 → ⊥) → (answered_by v fleet index r).fleet ≡ fleet
 unfolding answered_by
-answered-kept Passed fleet index r refused = reply-kept fleet index r refused
-answered-kept (Refused r') fleet index r refused = refl
+answered-kept (Ok _) fleet index r refused = reply-kept fleet index r refused
+answered-kept (Err r') fleet index r refused = refl
 
-plan-kept : (tick : Tick) (fleet : Fleet) (index k : ℕ) → (number (plan_in tick fleet index k).answer ≡ 0 → ⊥) → (plan_in tick fleet index k).fleet ≡ fleet
+plan-kept : (tick : Option Tick) (fleet : Fleet) (index k : ℕ) → (number (plan_in tick fleet index k).answer ≡ 0 → ⊥) → (plan_in tick fleet index k).fleet ≡ fleet
 unfolding plan_in plan_open
-plan-kept Shut fleet index k refused = settled-kept _ fleet fleet refused
-plan-kept (Open time_step rule) fleet index k refused = answered-kept (has_agent fleet index) fleet index _ refused
+plan-kept None fleet index k refused = settled-kept _ fleet fleet refused
+plan-kept (Some tick) fleet index k refused = answered-kept (has_agent fleet index) fleet index _ refused
 
-close-kept : (tick : Tick) (fleet : Fleet) → (number (close_in tick fleet).answer ≡ 0 → ⊥) → (close_in tick fleet).fleet ≡ fleet
+close-kept : (tick : Option Tick) (fleet : Fleet) → (number (close_in tick fleet).answer ≡ 0 → ⊥) → (close_in tick fleet).fleet ≡ fleet
 unfolding close_in close_open
-close-kept Shut fleet refused = settled-kept _ fleet fleet refused
-close-kept (Open time_step rule) fleet refused = settled-kept _ fleet _ refused
+close-kept None fleet refused = settled-kept _ fleet fleet refused
+close-kept (Some tick) fleet refused = settled-kept _ fleet _ refused
 
 pub refused-unchanged : RefusedUnchanged
 unfolding step load_call save_call add_call put_call remove_call read_call goal_call open_call plan_call close_call drop_call

@@ -1,4 +1,4 @@
--- A fleet made by the calls is at rest outside a tick: nothing is held, and past the last of its agents all is blank.
+-- A fleet made by the calls is at rest outside a tick: nothing is held.
 --     rests-empty: the empty fleet is
 --     rests-kept: every call, answered or refused, keeps it so
 --     rests-run: and so does every run of calls
@@ -7,14 +7,10 @@ use mathlib.Core.List.{List, [], ◌∷◌}
 use Prim.Native.Nat.{ℕ}
 use native.Mathlib.Omega.{arith}
 use lib.ListN.{length}
-use lib.Ieee.{Float}
+use Rattle.std.specs.Prelude.{Option, Some, None, Ok, Err}
 use Rattle.vectors.specs.declared.Vec3.{Vec3}
-use Rattle.refusals.specs.declared.Verdict.{Verdict}
-use Rattle.refusals.specs.declared.Verdict.TheVariants.{Passed, Refused}
 use Rattle.records.specs.declared.Record.{Record}
-use Rattle.planner.specs.declared.Rule.{Rule}
 use Rattle.fleet.specs.declared.Tick.{Tick}
-use Rattle.fleet.specs.declared.Tick.TheVariants.{Shut, Open}
 use Rattle.fleet.specs.declared.Fleet.{Fleet}
 use Rattle.fleet.specs.Table.{agents, holding_nothing, fleet_of, settled, added, add_call, put_call, removed, remove_call, read_call}
 use Rattle.fleet.specs.Load.{loaded, load_call}
@@ -25,40 +21,41 @@ use Rattle.fleet.specs.Calls.{Call, step}
 use Rattle.fleet.specs.Runs.{after}
 use Rattle.fleet.specs.Sound.{Resting}
 use Rattle.fleet.specs.Claims.{RestsEmpty, RestsRun}
-use Rattle.fleet.proofs.Agents.{agents-holding}
 use Rattle.fleet.proofs.InTurn.{plan-alters}
+use Rattle.refusals.specs.Verdict.{Verdict}
 
-not-shut : {P : Type 0} {time_step : Float} {rule : Rule} → Open time_step rule ≡ Shut → P
+not-shut : {P : Type 0} {tick : Tick} → Some tick ≡ None → P
 not-shut e = let z : ◌≡◌ {A = ℕ} 0 1 = cc in absurd (omega arith)
 
 rests-of : (rs : List Record) → Resting (fleet_of rs)
-rests-of rs is-shut = ap fleet_of (sym (agents-holding Shut rs))
-
-rests-open : (time_step : Float) (rule : Rule) (rs : List Record) → Resting (holding_nothing (Open time_step rule) rs)
 unfolding holding_nothing
-rests-open time_step rule rs is-shut = not-shut is-shut
+rests-of rs is-shut = refl
+
+rests-open : (tick : Tick) (rs : List Record) → Resting (holding_nothing (Some tick) rs)
+unfolding holding_nothing
+rests-open tick rs is-shut = not-shut is-shut
 
 rests-settled : (v : Verdict) (fleet next : Fleet) → Resting fleet → Resting next → Resting (settled v fleet next).fleet
 unfolding settled
-rests-settled Passed fleet next rests more = more
-rests-settled (Refused refusal) fleet next rests more = rests
+rests-settled (Ok _) fleet next rests more = more
+rests-settled (Err refusal) fleet next rests more = rests
 
-rests-goal : (tick : Tick) (fleet : Fleet) (index : ℕ) (v : Vec3) → fleet.tick ≡ tick → Resting (goal_set tick fleet index v)
+rests-goal : (tick : Option Tick) (fleet : Fleet) (index : ℕ) (v : Vec3) → fleet.tick ≡ tick → Resting (goal_set tick fleet index v)
 unfolding goal_set hold_goal
-rests-goal Shut fleet index v is = rests-of _
-rests-goal (Open time_step rule) fleet index v is = λ is-shut. not-shut (sym is ∙ is-shut)
+rests-goal None fleet index v is = rests-of _
+rests-goal (Some tick) fleet index v is = λ is-shut. not-shut (sym is ∙ is-shut)
 
 -- outside a tick a plan is refused
-rests-plan : (tick : Tick) (fleet : Fleet) (index k : ℕ) → fleet.tick ≡ tick → Resting fleet → Resting (plan_in tick fleet index k).fleet
+rests-plan : (tick : Option Tick) (fleet : Fleet) (index k : ℕ) → fleet.tick ≡ tick → Resting fleet → Resting (plan_in tick fleet index k).fleet
 unfolding plan_in settled plan_call
-rests-plan Shut fleet index k is rests = rests
-rests-plan (Open time_step rule) fleet index k is rests =
-    λ is-shut. not-shut (sym is ∙ sym (plan-alters fleet index k).tick ∙ ap (λ (tick : Tick). (plan_in tick fleet index k).fleet.tick) is ∙ is-shut)
+rests-plan None fleet index k is rests = rests
+rests-plan (Some opened) fleet index k is rests =
+    λ is-shut. not-shut (sym is ∙ sym (plan-alters fleet index k).tick ∙ ap (λ (tick : Option Tick). (plan_in tick fleet index k).fleet.tick) is ∙ is-shut)
 
-rests-close : (tick : Tick) (fleet : Fleet) → Resting fleet → Resting (close_in tick fleet).fleet
+rests-close : (tick : Option Tick) (fleet : Fleet) → Resting fleet → Resting (close_in tick fleet).fleet
 unfolding close_in close_open ended
-rests-close Shut fleet rests = rests-settled _ fleet fleet rests rests
-rests-close (Open time_step rule) fleet rests = rests-settled _ fleet _ rests (rests-of _)
+rests-close None fleet rests = rests-settled _ fleet fleet rests rests
+rests-close (Some tick) fleet rests = rests-settled _ fleet _ rests (rests-of _)
 
 pub rests-empty : RestsEmpty
 rests-empty = rests-of []
@@ -72,7 +69,7 @@ rests-kept fleet (Call.put index words) rests = rests-settled _ fleet _ rests (r
 rests-kept fleet (Call.remove index) rests = rests-settled _ fleet _ rests (rests-of _)
 rests-kept fleet (Call.read index) rests = rests
 rests-kept fleet (Call.goal index v) rests = rests-settled _ fleet _ rests (rests-goal fleet.tick fleet index v refl)
-rests-kept fleet (Call.start time_step rule) rests = rests-settled _ fleet _ rests (rests-open time_step rule (agents fleet))
+rests-kept fleet (Call.start time_step rule) rests = rests-settled _ fleet _ rests (rests-open (record { time_step = time_step; rule = rule }) (agents fleet))
 rests-kept fleet (Call.plan index scratch) rests = rests-plan fleet.tick fleet index (length scratch) refl rests
 rests-kept fleet Call.close rests = rests-close fleet.tick fleet rests
 rests-kept fleet Call.drop rests = rests-settled _ fleet _ rests (rests-of _)

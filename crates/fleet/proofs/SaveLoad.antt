@@ -14,8 +14,8 @@ use lib.Dec.{ltb}
 use lib.ListN.{length, get_or, take, drop}
 use lib.Seq.{take_at, drop_at}
 use borrow.Author.Tests.{ltb-false}
-use Rattle.refusals.specs.declared.Verdict.TheVariants.{Passed}
-use Rattle.refusals.specs.Verdict.{◌⊳◌}
+use Rattle.std.specs.Prelude.{Option, None, Ok}
+use Rattle.refusals.specs.Verdict.{◌⊳◌, passed}
 use Rattle.records.specs.declared.Record.{Record}
 use Rattle.records.specs.Record.{blank}
 use Rattle.records.specs.File.{file_of, records_of, file_verdict}
@@ -23,7 +23,6 @@ use Rattle.records.proofs.Encoding.{whole_length, file-back, file-passes, passed
 use Rattle.records.proofs.Decoding.{reader-decoded}
 use Rattle.fleet.specs.declared.Answer.TheVariants.{Done}
 use Rattle.fleet.specs.declared.Tick.{Tick}
-use Rattle.fleet.specs.declared.Tick.TheVariants.{Shut}
 use Rattle.fleet.specs.declared.Fleet.{Fleet}
 use Rattle.fleet.specs.Answer.{number}
 use Rattle.fleet.specs.Table.{agents, settled, shut, answer_to}
@@ -76,14 +75,14 @@ saved-records : (fleet : Fleet) → WholeRecords fleet → records_of (saved_byt
 unfolding saved_bytes
 saved-records fleet whole = file-back (agents fleet) whole
 
-saved-passes : (fleet : Fleet) → Sound fleet → WholeRecords fleet → file_verdict (saved_bytes fleet) ≡ Passed
+saved-passes : (fleet : Fleet) → Sound fleet → WholeRecords fleet → file_verdict (saved_bytes fleet) ≡ passed
 unfolding saved_bytes
 saved-passes fleet sound whole = file-passes (agents fleet) sound.few whole (λ k h. (sound.stored k h).passes)
 
-load-accepts : (onto : Fleet) (file : List ℕ) → onto.tick ≡ Shut → file_verdict file ≡ Passed → (load_call onto file).answer ≡ Done
+load-accepts : (onto : Fleet) (file : List ℕ) → onto.tick ≡ None → file_verdict file ≡ passed → (load_call onto file).answer ≡ Done
 unfolding load_call load_verdict shut settled
 load-accepts onto file no-tick passes =
-    ap (λ (tick : Tick). (settled (shut tick ⊳ file_verdict file) onto (loaded file)).answer) no-tick ∙ rw passes
+    ap (λ (tick : Option Tick). (settled (shut tick ⊳ file_verdict file) onto (loaded file)).answer) no-tick ∙ rw passes
 
 -- onto any fleet with no tick open
 pub saved-loads : SavedLoads
@@ -95,7 +94,7 @@ pub reader-saved : ReaderSaved
 reader-saved fleet k sound whole there =
     let back = saved-records fleet whole in
     reader-decoded (saved_bytes fleet) k (saved-passes fleet sound whole) (subst (λ (rs : List Record). k < length rs) (sym back) there)
-    ∙ ap (λ (rs : List Record). record { verdict = Passed; stored = get_or rs k blank }) back
+    ∙ ap (λ (rs : List Record). Ok (get_or rs k blank)) back
 
 -- ---- a file is saved as it was loaded
 

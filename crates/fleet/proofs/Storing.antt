@@ -8,20 +8,18 @@ use native.Mathlib.Omega.{arith}
 use lib.Ieee.{Float}
 use lib.ListN.{length, get_or, take, length-set, length-replicate, get_or-replicate}
 use borrow.Author.Tests.{not-false}
+use Rattle.std.specs.Prelude.{Option, Some, None}
 use Rattle.vectors.specs.declared.Vec3.{Vec3}
 use Rattle.vectors.specs.Number.{finite}
 use Rattle.vectors.specs.Vec3.{◌*ᵥ◌, zero_vec, finite_vec, IsBinary32}
 use Rattle.vectors.proofs.Finite.{finite-whole}
 use Rattle.vectors.proofs.Stored.{sum_is}
-use Rattle.refusals.specs.declared.Found.TheVariants as found
 use Rattle.refusals.specs.declared.Refusal.TheVariants.{NotFinite, Unplanned, PositionNotFinite}
-use Rattle.refusals.specs.declared.Verdict.TheVariants.{Passed}
 use Rattle.refusals.specs.Conditions.{first_bad}
-use Rattle.refusals.specs.Verdict.{refused_at}
+use Rattle.refusals.specs.Verdict.{refused_at, passed}
 use Rattle.refusals.proofs.Conditions.{no_place, none-bad}
 use Rattle.refusals.proofs.Verdicts.{both-passed, nothing-found}
-use Rattle.requests.specs.declared.Reply.{Reply}
-use Rattle.requests.specs.Reply.{is_answered, velocity_of}
+use Rattle.requests.specs.Reply.{is_answered, velocity_of, Reply}
 use Rattle.requests.proofs.ReplyLaws.{renamed-answered, renamed-velocity}
 use Rattle.avoidance.specs.Velocity.{velocity_call}
 use Rattle.avoidance.proofs.Velocities.{answer-finite, answer-is-binary32}
@@ -32,70 +30,63 @@ use Rattle.records.proofs.Kept.{goal-words, moved-words, goal-passes, moved_pass
 use Rattle.planner.specs.declared.Rule.{Rule}
 use Rattle.planner.specs.Plan.{request_for, own_record, neighbour_indices, neighbours_of, reply_for}
 use Rattle.planner.proofs.Replies.{reply-is, preferred-is-binary32}
-use Rattle.fleet.specs.declared.Held.{Held}
-use Rattle.fleet.specs.declared.Held.TheVariants.{Nothing, Vector}
-use Rattle.fleet.specs.declared.Slot.{Slot}
 use Rattle.fleet.specs.Table.{nothing_held}
 use Rattle.fleet.specs.Tick.{goal_fault, goal_verdict, with_held, goal_taken, goals_taken, unplanned, arrival, astray, moved_by, arrivals, all_moved, close_verdict}
 use Rattle.fleet.specs.Plan.{plans_after}
 use Rattle.fleet.specs.Sound.{Stored, Storable, AllStorable}
 use Rattle.fleet.proofs.Lists.{Every, every_set}
 use Rattle.fleet.proofs.Each.{each_at, each-length, each-every}
-use Rattle.fleet.proofs.HeldGoals.{slot}
 
 -- ---- lists of what is held
-
-abbrev Holds : Slot → Type 0
-Holds s = Storable s.held
 
 pub none-storable : AllStorable nothing_held
 unfolding nothing_held
 none-storable = record {
-  many = length-replicate most_agents (slot Nothing);
-  each = λ index h. subst Holds (sym (get_or-replicate most_agents index (slot Nothing) (slot Nothing) h)) tt;
+  many = length-replicate {A = Option Vec3} most_agents None;
+  each = λ index h. subst Storable (sym (get_or-replicate most_agents index None None h)) tt;
 }
 
-pub held-storable : (slots : List Slot) (index : ℕ) (v : Vec3) → AllStorable slots → Storable (Vector v) → AllStorable (with_held slots index v)
+pub held-storable : (slots : List (Option Vec3)) (index : ℕ) (v : Vec3) → AllStorable slots → Storable (Some v) → AllStorable (with_held slots index v)
 unfolding with_held
 held-storable slots index v all ok =
-    let many : length (with_held slots index v) ≡ most_agents = length-set slots index (slot (Vector v)) ∙ all.many in
+    let many : length (with_held slots index v) ≡ most_agents = length-set slots index (Some v) ∙ all.many in
     record {
       many = many;
-      each = λ i h. every_set Holds (slot Nothing) slots index (slot (Vector v)) (λ j k. all.each j (omega (arith, k, all.many))) ok i (omega (arith, h, many));
+      each = λ i h. every_set Storable None slots index (Some v) (λ j k. all.each j (omega (arith, k, all.many))) ok i (omega (arith, h, many));
     }
 
 -- ---- what comes to be held
 
-fault-finite : (v : Vec3) → goal_fault v ≡ found.Nothing → finite_vec v ≡ true
+fault-finite : (v : Vec3) → goal_fault v ≡ None → finite_vec v ≡ true
 unfolding goal_fault
 fault-finite v = go (finite v.x) (finite v.y) (finite v.z) (finite-whole v)
   where
     go : (a b c : Bool) → (a ≡ true → b ≡ true → c ≡ true → finite_vec v ≡ true)
-        → cond a (cond b (cond c found.Nothing (found.At (goal_word + 2))) (found.At (goal_word + 1))) (found.At goal_word) ≡ found.Nothing → finite_vec v ≡ true
+        → cond a (cond b (cond c None (Some (goal_word + 2))) (Some (goal_word + 1))) (Some goal_word) ≡ None → finite_vec v ≡ true
     go true true true whole e = whole refl refl refl
     go true true false whole e = no_place (sym e)
     go true false c whole e = no_place (sym e)
     go false b c whole e = no_place (sym e)
 
 -- a goal that is accepted
-pub goal-storable : (count index : ℕ) (v : Vec3) → goal_verdict count index v ≡ Passed → IsBinary32 v → Storable (Vector v)
+pub goal-storable : (count index : ℕ) (v : Vec3) → goal_verdict count index v ≡ passed → IsBinary32 v → Storable (Some v)
 unfolding goal_verdict
-goal-storable count index v passed is =
-    (fault-finite v (nothing-found (goal_fault v) NotFinite (both-passed (index_among count index) (refused_at (goal_fault v) NotFinite) passed).1), is)
+goal-storable count index v are-passed is =
+    (fault-finite v (nothing-found (goal_fault v) NotFinite (both-passed (index_among count index) (refused_at (goal_fault v) NotFinite) are-passed).1), is)
 
 -- a velocity that is answered
 answer-storable : (time_step : Float) (rule : Rule) (rs : List Record) (index k : ℕ) → is_answered (reply_for time_step rule rs index k) ≡ true
-    → Storable (Vector (velocity_of (reply_for time_step rule rs index k)))
+    → Storable (Some (velocity_of (reply_for time_step rule rs index k)))
 answer-storable time_step rule rs index k answered =
     let names = neighbour_indices rule rs index in
     let request = request_for (own_record rs index) time_step in
     let neighbours = neighbours_of rule rs index in
     let call = velocity_call request neighbours k in
     let is = reply-is time_step rule rs index k in
-    subst (λ (v : Vec3). Storable (Vector v)) (sym (ap velocity_of is ∙ renamed-velocity names call))
+    subst (λ (v : Vec3). Storable (Some v)) (sym (ap velocity_of is ∙ renamed-velocity names call))
     (answer-finite request neighbours k (sym (ap is_answered is ∙ renamed-answered names call) ∙ answered), answer-is-binary32 request neighbours k (preferred-is-binary32 (own_record rs index) time_step))
 
-pub plans-storable : (time_step : Float) (rule : Rule) (rs : List Record) (index k : ℕ) (plans : List Slot) → AllStorable plans
+pub plans-storable : (time_step : Float) (rule : Rule) (rs : List Record) (index k : ℕ) (plans : List (Option Vec3)) → AllStorable plans
     → AllStorable (plans_after plans index (reply_for time_step rule rs index k))
 unfolding plans_after
 plans-storable time_step rule rs index k plans all = go (is_answered reply) refl
@@ -109,19 +100,19 @@ plans-storable time_step rule rs index k plans all = go (is_answered reply) refl
 
 -- ---- one record
 
-pub goal-stored : (r : Record) (goal : Vec3) → Stored r → Storable (Vector goal) → Stored (with_goal goal r)
+pub goal-stored : (r : Record) (goal : Vec3) → Stored r → Storable (Some goal) → Stored (with_goal goal r)
 goal-stored r goal ok (goal-finite, is) = record { words = goal-words r goal ∙ ok.words; passes = goal-passes r goal ok.passes goal-finite is }
 
-taken-stored : (r : Record) (goal : Held) → Stored r → Storable goal → Stored (goal_taken r goal)
+taken-stored : (r : Record) (goal : Option Vec3) → Stored r → Storable goal → Stored (goal_taken r goal)
 unfolding goal_taken
-taken-stored r Nothing ok none = ok
-taken-stored r (Vector goal) ok storable = goal-stored r goal ok storable
+taken-stored r None ok none = ok
+taken-stored r (Some goal) ok storable = goal-stored r goal ok storable
 
-one-moved : (time_step : Float) (r : Record) (plan : Held) → Stored r → Storable plan → finite_vec (arrival time_step r plan) ≡ true → Stored (moved_by time_step r plan)
+one-moved : (time_step : Float) (r : Record) (plan : Option Vec3) → Stored r → Storable plan → finite_vec (arrival time_step r plan) ≡ true → Stored (moved_by time_step r plan)
 unfolding moved_by arrival
-one-moved time_step r Nothing ok none arrives = ok
-one-moved time_step r (Vector velocity) ok (velocity-finite, is) arrives =
-    let there = arrival time_step r (Vector velocity) in
+one-moved time_step r None ok none arrives = ok
+one-moved time_step r (Some velocity) ok (velocity-finite, is) arrives =
+    let there = arrival time_step r (Some velocity) in
     record {
       words = moved-words r there velocity ∙ ok.words;
       passes = moved_passes r there velocity ok.passes arrives (sum_is (position_of r) (velocity *ᵥ time_step)) velocity-finite is;
@@ -129,9 +120,9 @@ one-moved time_step r (Vector velocity) ok (velocity-finite, is) arrives =
 
 -- ---- lists of records
 
-module _ (rs : List Record) (slots : List Slot) (few : length rs ≤ most_agents) (stored : Every Stored blank rs) (storable : AllStorable slots) where
-  abbrev held : ℕ → Held
-  held i = (get_or slots i (slot Nothing)).held
+module _ (rs : List Record) (slots : List (Option Vec3)) (few : length rs ≤ most_agents) (stored : Every Stored blank rs) (storable : AllStorable slots) where
+  abbrev held : ℕ → Option Vec3
+  held i = get_or slots i None
 
   room : length rs ≤ length slots
   room = omega (arith, few, storable.many)
@@ -142,23 +133,22 @@ module _ (rs : List Record) (slots : List Slot) (few : length rs ≤ most_agents
   pub goals-stored : Every Stored blank (goals_taken rs slots)
   unfolding goals_taken
   goals-stored =
-      each-every (λ (r : Record) (goal : Slot). goal_taken r goal.held) Stored rs slots blank (slot Nothing) blank room
+      each-every goal_taken Stored rs slots blank None blank room
       (λ i h. taken-stored (get_or rs i blank) (held i) (stored i h) (holds i h))
 
   -- no arrival is astray
-  arrives : (time_step : Float) → close_verdict time_step rs slots ≡ Passed → (i : ℕ) → i < length rs → finite_vec (arrival time_step (get_or rs i blank) (held i)) ≡ true
+  arrives : (time_step : Float) → close_verdict time_step rs slots ≡ passed → (i : ℕ) → i < length rs → finite_vec (arrival time_step (get_or rs i blank) (held i)) ≡ true
   unfolding close_verdict arrivals
-  arrives time_step passed i h =
-      let there : Record → Slot → Vec3 = λ r plan. arrival time_step r plan.held in
+  arrives time_step are-passed i h =
       let planless = first_bad unplanned 0 (take (length rs) slots) in
       let lost = first_bad astray 0 (arrivals time_step rs slots) in
-      let none = nothing-found lost PositionNotFinite (both-passed (refused_at planless Unplanned) (refused_at lost PositionNotFinite) passed).1 in
-      let within : i < length (arrivals time_step rs slots) = omega (arith, h, each-length there rs slots room) in
-      sym (ap finite_vec (each_at there rs slots i blank (slot Nothing) zero_vec h (omega (arith, h, room))))
+      let none = nothing-found lost PositionNotFinite (both-passed (refused_at planless Unplanned) (refused_at lost PositionNotFinite) are-passed).1 in
+      let within : i < length (arrivals time_step rs slots) = omega (arith, h, each-length (arrival time_step) rs slots room) in
+      sym (ap finite_vec (each_at (arrival time_step) rs slots i blank None zero_vec h (omega (arith, h, room))))
       ∙ not-false (finite_vec (get_or (arrivals time_step rs slots) i zero_vec)) (none-bad astray 0 (arrivals time_step rs slots) none i zero_vec within)
 
-  pub moved-stored : (time_step : Float) → close_verdict time_step rs slots ≡ Passed → Every Stored blank (all_moved time_step rs slots)
+  pub moved-stored : (time_step : Float) → close_verdict time_step rs slots ≡ passed → Every Stored blank (all_moved time_step rs slots)
   unfolding all_moved
-  moved-stored time_step passed =
-      each-every (λ (r : Record) (plan : Slot). moved_by time_step r plan.held) Stored rs slots blank (slot Nothing) blank room
-      (λ i h. one-moved time_step (get_or rs i blank) (held i) (stored i h) (holds i h) (arrives time_step passed i h))
+  moved-stored time_step are-passed =
+      each-every (moved_by time_step) Stored rs slots blank None blank room
+      (λ i h. one-moved time_step (get_or rs i blank) (held i) (stored i h) (holds i h) (arrives time_step are-passed i h))

@@ -4,10 +4,9 @@ use Prim.Native.Nat.{ℕ, ◌<◌}
 use native.Mathlib.Omega.{arith}
 use borrow.Author.Tests.{ltb-true}
 use lib.Dec.{ltb}
-use Rattle.refusals.specs.declared.Refusal.{Refusal}
+use Rattle.std.specs.Prelude.{Ok, Err}
+use Rattle.refusals.specs.Verdict.{Verdict, passed}
 use Rattle.refusals.specs.declared.Refusal.TheVariants.{NoAgent, Full}
-use Rattle.refusals.specs.declared.Verdict.{Verdict}
-use Rattle.refusals.specs.declared.Verdict.TheVariants.{Passed, Refused}
 use Rattle.refusals.proofs.Verdicts.{not-answered, test-passed}
 use Rattle.records.specs.Record.{most_agents}
 use Rattle.records.specs.Checks.{index_among}
@@ -18,36 +17,28 @@ use Rattle.fleet.specs.Table.{settled, room}
 
 -- ---- what a call hands back
 
-pub settled-refused : {v : Verdict} {refusal : Refusal} (fleet next : Fleet) → v ≡ Refused refusal → settled (Refused refusal) fleet fleet ≡ settled v fleet next
-unfolding settled
-settled-refused fleet next e = rw e
-
-pub settled-passed : {v : Verdict} {made next : Fleet} (fleet : Fleet) → made ≡ next → v ≡ Passed → settled Passed made made ≡ settled v fleet next
-unfolding settled
-settled-passed fleet same e = rw (same, e)
-
 -- an answer has the number 0 only where the checks passed
-pub settled-passes : (v : Verdict) (fleet next : Fleet) → number (settled v fleet next).answer ≡ 0 → v ≡ Passed
+pub settled-passes : (v : Verdict) (fleet next : Fleet) → number (settled v fleet next).answer ≡ 0 → v ≡ passed
 unfolding settled
-settled-passes Passed fleet next e = refl
-settled-passes (Refused refusal) fleet next e = absurd (not-answered refusal e)
+settled-passes (Ok _) fleet next e = refl
+settled-passes (Err refusal) fleet next e = absurd (not-answered refusal e)
 
 pub settled-done : (v : Verdict) (fleet next : Fleet) → (settled v fleet next).answer ≡ Done → settled v fleet next ≡ record { answer = Done; fleet = next }
 unfolding settled
-settled-done Passed fleet next e = refl
-settled-done (Refused refusal) fleet next e = let z : ◌≡◌ {A = ℕ} 0 1 = cc in absurd (omega arith)
+settled-done (Ok _) fleet next e = refl
+settled-done (Err refusal) fleet next e = let z : ◌≡◌ {A = ℕ} 0 1 = cc in absurd (omega arith)
 
 -- a refused call leaves the table unchanged
 pub settled-kept : (v : Verdict) (fleet next : Fleet) → (number (settled v fleet next).answer ≡ 0 → ⊥) → (settled v fleet next).fleet ≡ fleet
 unfolding settled
-settled-kept Passed fleet next refused = absurd (refused refl)
-settled-kept (Refused refusal) fleet next refused = refl
+settled-kept (Ok _) fleet next refused = absurd (refused refl)
+settled-kept (Err refusal) fleet next refused = refl
 
 -- ---- what a check that passed says
 
-pub room-passed : (count : ℕ) → room count ≡ Passed → count < most_agents
+pub room-passed : (count : ℕ) → room count ≡ passed → count < most_agents
 unfolding room
 room-passed count e = ltb-true count most_agents (test-passed (ltb count most_agents) (Full most_agents) e)
 
-pub among-passed : (count index : ℕ) → index_among count index ≡ Passed → index < count
+pub among-passed : (count index : ℕ) → index_among count index ≡ passed → index < count
 among-passed count index e = ltb-true index count (test-passed (ltb index count) (NoAgent index) e)

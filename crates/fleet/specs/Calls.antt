@@ -1,6 +1,6 @@
 -- The table's calls as values, the step that each makes, and document 01's conditions for refusing it, in their order.
 -- That a call is refused with N exactly when N's condition is the first that holds is claimed in `Claims.antt`.
-use Rattle.std.specs.Prelude.{ℕ, Bool, true, false, not, List, [], ◌∷◌, leb, length, take, Float}
+use Rattle.std.specs.Prelude.{ℕ, Bool, true, not, Option, Some, None, is_some, List, [], ◌∷◌, leb, length, take, Float}
 use Rattle.vectors.specs.declared.Vec3.{Vec3}
 use Rattle.vectors.specs.Number.{◌>ᶠ◌, zero, finite}
 use Rattle.vectors.specs.Vec3.{finite_vec}
@@ -12,7 +12,6 @@ use Rattle.records.specs.Conditions.{record_conditions, file_conditions}
 use Rattle.planner.specs.declared.Rule.{Rule}
 use Rattle.planner.specs.Plan.{request_for, own_record, neighbours_of}
 use Rattle.fleet.specs.declared.Tick.{Tick}
-use Rattle.fleet.specs.declared.Tick.TheVariants.{Shut, Open}
 use Rattle.fleet.specs.declared.Fleet.{Fleet}
 use Rattle.fleet.specs.declared.Called.{Called}
 use Rattle.fleet.specs.Table.{agents, add_call, put_call, remove_call, read_call}
@@ -52,24 +51,23 @@ step fleet drop = drop_call fleet
 
 -- ---- the conditions, each with its number
 
-unfoldable pub is_open : Tick → Bool
-is_open Shut = false
-is_open (Open time_step rule) = true
+abbrev pub is_open : Option Tick → Bool
+is_open tick = is_some tick
 
 unfoldable pub no_agent : Fleet → ℕ → Bool
 no_agent fleet index = leb (length (agents fleet)) index
 
 -- those of a velocity call's on the standing records come last
-unfoldable pub plan_conditions : (Request → List Float → ℕ → List (ℕ × Bool)) → Tick → Fleet → ℕ → ℕ → List (ℕ × Bool)
-plan_conditions of_call Shut fleet index scratch_length = (11, true) ∷ []
-plan_conditions of_call (Open time_step rule) fleet index scratch_length =
-    (8, no_agent fleet index) ∷ of_call (request_for (own_record (agents fleet) index) time_step) (neighbours_of rule (agents fleet) index) scratch_length
+unfoldable pub plan_conditions : (Request → List Float → ℕ → List (ℕ × Bool)) → Option Tick → Fleet → ℕ → ℕ → List (ℕ × Bool)
+plan_conditions of_call None fleet index scratch_length = (11, true) ∷ []
+plan_conditions of_call (Some tick) fleet index scratch_length =
+    (8, no_agent fleet index) ∷ of_call (request_for (own_record (agents fleet) index) tick.time_step) (neighbours_of tick.rule (agents fleet) index) scratch_length
 
-unfoldable pub close_conditions : Tick → Fleet → List (ℕ × Bool)
-close_conditions Shut fleet = (11, true) ∷ []
-close_conditions (Open time_step rule) fleet =
+unfoldable pub close_conditions : Option Tick → Fleet → List (ℕ × Bool)
+close_conditions None fleet = (11, true) ∷ []
+close_conditions (Some tick) fleet =
     (12, some (marked unplanned 0 (take (length (agents fleet)) fleet.plans)))
-    ∷ (13, some (marked astray 0 (arrivals time_step (agents fleet) fleet.plans)))
+    ∷ (13, some (marked astray 0 (arrivals tick.time_step (agents fleet) fleet.plans)))
     ∷ []
 
 -- document 01's, in its order: 10 or 11 first, then 8 or 9 or 14, then record checks 15, 3, 4, 5, then 12 before 13, or plan's own; save's is 16 alone

@@ -1,12 +1,11 @@
 -- What is proved of the definitions, each statement under its name. The proofs are in `proofs/`.
-use Rattle.std.specs.Prelude.{ℕ, ◌+◌, ◌*◌, ◌/◌, ◌≤◌, ◌<◌, ◌≡◌, true, false, List, [], ◌∷◌, ◌++◌, ◌↔◌, ◌⊎◌, length, get_or, take, drop, replicate, Float}
+use Rattle.std.specs.Prelude.{ℕ, ◌+◌, ◌*◌, ◌/◌, ◌≤◌, ◌<◌, ◌≡◌, true, false, Some, None, Ok, List, [], ◌∷◌, ◌++◌, ◌↔◌, ◌⊎◌, length, get_or, take, drop, replicate, Float}
 use Rattle.vectors.specs.declared.Vec3.{Vec3}
 use Rattle.vectors.specs.Number.{zero}
 use Rattle.vectors.specs.Vec3.{zero_vec}
-use Rattle.refusals.specs.declared.Verdict.TheVariants.{Passed}
 use Rattle.refusals.specs.Conditions.{First, some, Lowest}
+use Rattle.requests.specs.Reply.{Reply}
 use Rattle.requests.specs.declared.Request.{Request}
-use Rattle.requests.specs.declared.Reply.{Reply}
 use Rattle.requests.specs.declared.Asked.TheVariants.{Finite}
 use Rattle.requests.specs.Request.{time_step_place}
 use Rattle.requests.specs.Checks.{bad_number, needed_scratch, full_scratch}
@@ -23,8 +22,7 @@ use Rattle.planner.specs.declared.Rule.{Rule}
 use Rattle.planner.specs.Plan.{request_for, own_record, neighbour_indices, neighbours_of, reply_for}
 use Rattle.fleet.specs.declared.Answer.{Answer}
 use Rattle.fleet.specs.declared.Answer.TheVariants as answer
-use Rattle.fleet.specs.declared.Held.TheVariants.{Nothing}
-use Rattle.fleet.specs.declared.Tick.TheVariants.{Shut, Open}
+use Rattle.fleet.specs.declared.Tick.{Tick}
 use Rattle.fleet.specs.declared.Fleet.{Fleet}
 use Rattle.fleet.specs.Answer.{number, place_of, velocity_of}
 use Rattle.fleet.specs.Table.{agents, fleet_of, read_call}
@@ -44,9 +42,9 @@ abbrev pub ◌∈◌ : {A : Type 0} → A → List A → Type 0
 x ∈ [] = ⊥
 x ∈ (y ∷ ys) = (x ≡ y) ⊎ (x ∈ ys)
 
--- what the type of a fleet says: it has room for 64 records
+-- what the type of a fleet says: it has at most 64 records
 abbrev pub WholeFleet : Fleet → Type 0
-WholeFleet fleet = length fleet.standing.records ≡ most_agents
+WholeFleet fleet = length (agents fleet) ≤ most_agents
 
 -- and each of them has 19 words of 32 bits
 abbrev pub WholeRecords : Fleet → Type 0
@@ -104,20 +102,20 @@ pub data Placed (fleet : Fleet) : Call → (number place : ℕ) → Type 0 where
   open-3 : (time_step : Float) (rule : Rule) → Placed fleet (Call.start time_step rule) 3 time_step_place
   open-4 : (time_step : Float) (rule : Rule) → Placed fleet (Call.start time_step rule) 4 time_step_place
   -- 12: the first agent without a plan
-  close-12 : (agent : ℕ) → Lowest unplanned 0 (take (length (agents fleet)) fleet.plans) (record { held = Nothing }) agent → Placed fleet Call.close 12 agent
+  close-12 : (agent : ℕ) → Lowest unplanned 0 (take (length (agents fleet)) fleet.plans) None agent → Placed fleet Call.close 12 agent
   -- 13: the first that would arrive at a position that is not finite
-  close-13 : (time_step : Float) (rule : Rule) → fleet.tick ≡ Open time_step rule
-      → (agent : ℕ) → Lowest astray 0 (arrivals time_step (agents fleet) fleet.plans) zero_vec agent → Placed fleet Call.close 13 agent
+  close-13 : (tick : Tick) → fleet.tick ≡ Some tick
+      → (agent : ℕ) → Lowest astray 0 (arrivals tick.time_step (agents fleet) fleet.plans) zero_vec agent → Placed fleet Call.close 13 agent
   -- 16: the bytes needed
   save-16 : (buffer : List ℕ) → Placed fleet (Call.save buffer) 16 (needed_bytes fleet)
   -- a plan passes on the velocity call's number and place
-  plan-passes : (time_step : Float) (rule : Rule) (index : ℕ) (scratch : List Float) → fleet.tick ≡ Open time_step rule
-      → (reply.number (plan_reply fleet time_step rule index scratch) ≡ 6 → ⊥)
-      → Placed fleet (Call.plan index scratch) (reply.number (plan_reply fleet time_step rule index scratch)) (reply.place_of (plan_reply fleet time_step rule index scratch))
+  plan-passes : (tick : Tick) (index : ℕ) (scratch : List Float) → fleet.tick ≡ Some tick
+      → (reply.number (plan_reply fleet tick.time_step tick.rule index scratch) ≡ 6 → ⊥)
+      → Placed fleet (Call.plan index scratch) (reply.number (plan_reply fleet tick.time_step tick.rule index scratch)) (reply.place_of (plan_reply fleet tick.time_step tick.rule index scratch))
   -- but for 6's: that is the table index of the first neighbour whose plane has a component that is not finite
-  plan-6 : (time_step : Float) (rule : Rule) (index : ℕ) (scratch : List Float) → fleet.tick ≡ Open time_step rule
-      → (neighbour : ℕ) → Lowest bad_plane 0 (planes_of_call (plan_request fleet time_step index) (plan_neighbours fleet rule index)) (record { point = zero_vec; normal = zero_vec }) neighbour
-      → Placed fleet (Call.plan index scratch) 6 (get_or (neighbour_indices rule (agents fleet) index) neighbour 0)
+  plan-6 : (tick : Tick) (index : ℕ) (scratch : List Float) → fleet.tick ≡ Some tick
+      → (neighbour : ℕ) → Lowest bad_plane 0 (planes_of_call (plan_request fleet tick.time_step index) (plan_neighbours fleet tick.rule index)) (record { point = zero_vec; normal = zero_vec }) neighbour
+      → Placed fleet (Call.plan index scratch) 6 (get_or (neighbour_indices tick.rule (agents fleet) index) neighbour 0)
 
 -- Every answer, to every call on every fleet, has its place so.
 abbrev pub AnswerPlaces : Type 0
@@ -147,16 +145,16 @@ pub record ScratchLeft (fleet : Fleet) (index : ℕ) (scratch : List Float) (num
   pub untouched : number ∈ (8 ∷ 11 ∷ 1 ∷ 2 ∷ 3 ∷ 4 ∷ 5 ∷ 17 ∷ []) → left ≡ scratch
   -- 6, 7 and 18: its first 12n numbers are +0
   pub cleared :
-      (time_step : Float) (rule : Rule) → fleet.tick ≡ Open time_step rule → number ∈ (6 ∷ 7 ∷ 18 ∷ [])
-      → left ≡ replicate (needed_scratch (plan_neighbours fleet rule index)) zero ++ drop (needed_scratch (plan_neighbours fleet rule index)) scratch
+      (tick : Tick) → fleet.tick ≡ Some tick → number ∈ (6 ∷ 7 ∷ 18 ∷ [])
+      → left ≡ replicate (needed_scratch (plan_neighbours fleet tick.rule index)) zero ++ drop (needed_scratch (plan_neighbours fleet tick.rule index)) scratch
   -- 0: the planes and +0s, as the velocity call leaves them
   pub planes :
-      (time_step : Float) (rule : Rule) → fleet.tick ≡ Open time_step rule → number ≡ 0
-      → left ≡ scratch_after (plan_request fleet time_step index) (plan_neighbours fleet rule index) scratch
+      (tick : Tick) → fleet.tick ≡ Some tick → number ≡ 0
+      → left ≡ scratch_after (plan_request fleet tick.time_step index) (plan_neighbours fleet tick.rule index) scratch
   -- whatever it is, nothing past 12n is touched
   pub past :
-      (time_step : Float) (rule : Rule) → fleet.tick ≡ Open time_step rule
-      → drop (needed_scratch (plan_neighbours fleet rule index)) left ≡ drop (needed_scratch (plan_neighbours fleet rule index)) scratch
+      (tick : Tick) → fleet.tick ≡ Some tick
+      → drop (needed_scratch (plan_neighbours fleet tick.rule index)) left ≡ drop (needed_scratch (plan_neighbours fleet tick.rule index)) scratch
 
 -- After every plan scratch is as its answer says.
 abbrev pub ScratchByAnswer : Type 0
@@ -271,13 +269,13 @@ LoadReadWord =
 abbrev pub ReaderLoad : Type 0
 ReaderLoad =
     (fleet : Fleet) (file : List ℕ) (k : ℕ) → (load_call fleet file).answer ≡ answer.Done → k < length file / record_bytes
-    → handed_at file k ≡ record { verdict = Passed; stored = get_or (agents (load_call fleet file).fleet) k blank }
+    → handed_at file k ≡ Ok (get_or (agents (load_call fleet file).fleet) k blank)
 
 -- So its words are those that read gives back.
 abbrev pub ReaderRead : Type 0
 ReaderRead =
     (fleet : Fleet) (file : List ℕ) (k : ℕ) → (load_call fleet file).answer ≡ answer.Done → k < length file / record_bytes
-    → (handed_at file k).stored.words ≡ (read_call (load_call fleet file).fleet k).words
+    → handed_at file k ≡ Ok (record { words = (read_call (load_call fleet file).fleet k).words })
 
 -- A save that is refused leaves the buffer as it was; one that is answered leaves the bytes saved at its start, and past them it is as it was.
 abbrev pub SavedBuffer : Type 0
@@ -290,7 +288,7 @@ SavedBuffer =
 -- Load, onto any fleet with no tick open, accepts the bytes saved of a sound fleet, and its agents are then the same records, in order.
 abbrev pub SavedLoads : Type 0
 SavedLoads =
-    (fleet onto : Fleet) → Sound fleet → WholeRecords fleet → onto.tick ≡ Shut
+    (fleet onto : Fleet) → Sound fleet → WholeRecords fleet → onto.tick ≡ None
     → ((load_call onto (saved_bytes fleet)).answer ≡ answer.Done) × (agents (load_call onto (saved_bytes fleet)).fleet ≡ agents fleet)
 
 -- A file that load accepts, saved at once, is the same bytes; that bytes are below 256 is a fact of their type.
@@ -307,4 +305,4 @@ SavedStanding =
 abbrev pub ReaderSaved : Type 0
 ReaderSaved =
     (fleet : Fleet) (k : ℕ) → Sound fleet → WholeRecords fleet → k < length (agents fleet)
-    → handed_at (saved_bytes fleet) k ≡ record { verdict = Passed; stored = get_or (agents fleet) k blank }
+    → handed_at (saved_bytes fleet) k ≡ Ok (get_or (agents fleet) k blank)

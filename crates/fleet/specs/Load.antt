@@ -1,14 +1,13 @@
 -- The call load, of a whole fleet file.
-use Rattle.std.specs.Prelude.{List, ℕ}
-use Rattle.refusals.specs.declared.Verdict.{Verdict}
-use Rattle.refusals.specs.Verdict.{◌⊳◌}
+use Rattle.std.specs.Prelude.{ℕ, Option, List}
+use Rattle.refusals.specs.Verdict.{Verdict, ◌⊳◌}
 use Rattle.records.specs.File.{records_of, file_verdict}
 use Rattle.fleet.specs.declared.Tick.{Tick}
 use Rattle.fleet.specs.declared.Fleet.{Fleet}
 use Rattle.fleet.specs.declared.Called.{Called}
 use Rattle.fleet.specs.Table.{fleet_of, settled, shut}
 
-unfoldable pub load_verdict : Tick → List ℕ → Verdict
+unfoldable pub load_verdict : Option Tick → List ℕ → Verdict
 load_verdict tick file = shut tick ⊳ file_verdict file
 
 -- the fleet of a file's records

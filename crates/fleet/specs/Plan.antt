@@ -1,16 +1,12 @@
 -- The call plan: the velocity call on the standing records, with the neighbours that the tick's rule keeps.
-use Rattle.std.specs.Prelude.{ℕ, cond, List, Float}
+use Rattle.std.specs.Prelude.{ℕ, cond, Option, Some, None, Ok, Err, List, Float}
+use Rattle.vectors.specs.declared.Vec3.{Vec3}
+use Rattle.refusals.specs.Verdict.{Verdict}
 use Rattle.refusals.specs.declared.Refusal.TheVariants.{NoTick}
-use Rattle.refusals.specs.declared.Verdict.{Verdict}
-use Rattle.refusals.specs.declared.Verdict.TheVariants.{Passed, Refused}
-use Rattle.requests.specs.declared.Reply.{Reply}
-use Rattle.requests.specs.Reply.{is_answered, velocity_of}
-use Rattle.planner.specs.declared.Rule.{Rule}
+use Rattle.requests.specs.Reply.{Reply, is_answered, velocity_of}
 use Rattle.planner.specs.Plan.{reply_for, reply_scratch}
 use Rattle.fleet.specs.declared.Answer.TheVariants as answer
-use Rattle.fleet.specs.declared.Slot.{Slot}
 use Rattle.fleet.specs.declared.Tick.{Tick}
-use Rattle.fleet.specs.declared.Tick.TheVariants.{Shut, Open}
 use Rattle.fleet.specs.declared.Fleet.{Fleet}
 use Rattle.fleet.specs.declared.Called.{Called}
 use Rattle.fleet.specs.Table.{agents, settled, has_agent}
@@ -19,7 +15,7 @@ use Rattle.fleet.specs.Tick.{with_held}
 -- ---- plan
 
 -- an answered velocity is held until the tick ends; a refusal leaves an earlier one standing
-unfoldable pub plans_after : List Slot → ℕ → Reply → List Slot
+unfoldable pub plans_after : List (Option Vec3) → ℕ → Reply → List (Option Vec3)
 plans_after plans index reply = cond (is_answered reply) (with_held plans index (velocity_of reply)) plans
 
 unfoldable pub fleet_after : Fleet → ℕ → Reply → Fleet
@@ -31,16 +27,16 @@ fleet_after fleet index reply = record {
 }
 
 unfoldable pub answered_by : Verdict → Fleet → ℕ → Reply → Called
-answered_by Passed fleet index reply = record { answer = answer.Plan reply; fleet = fleet_after fleet index reply }
-answered_by (Refused refusal) fleet index reply = record { answer = answer.Refused refusal; fleet = fleet }
+answered_by (Ok _) fleet index reply = record { answer = answer.Plan reply; fleet = fleet_after fleet index reply }
+answered_by (Err refusal) fleet index reply = record { answer = answer.Refused refusal; fleet = fleet }
 
-unfoldable pub plan_open : Float → Rule → Fleet → ℕ → ℕ → Called
-plan_open time_step rule fleet index scratch_length =
-    answered_by (has_agent fleet index) fleet index (reply_for time_step rule (agents fleet) index scratch_length)
+unfoldable pub plan_open : Tick → Fleet → ℕ → ℕ → Called
+plan_open tick fleet index scratch_length =
+    answered_by (has_agent fleet index) fleet index (reply_for tick.time_step tick.rule (agents fleet) index scratch_length)
 
-unfoldable pub plan_in : Tick → Fleet → ℕ → ℕ → Called
-plan_in Shut fleet index scratch_length = settled (Refused NoTick) fleet fleet
-plan_in (Open time_step rule) fleet index scratch_length = plan_open time_step rule fleet index scratch_length
+unfoldable pub plan_in : Option Tick → Fleet → ℕ → ℕ → Called
+plan_in None fleet index scratch_length = settled (Err NoTick) fleet fleet
+plan_in (Some tick) fleet index scratch_length = plan_open tick fleet index scratch_length
 
 unfoldable pub plan_call : Fleet → ℕ → ℕ → Called
 plan_call fleet index scratch_length = plan_in fleet.tick fleet index scratch_length
@@ -48,16 +44,16 @@ plan_call fleet index scratch_length = plan_in fleet.tick fleet index scratch_le
 -- ---- what is left in scratch: untouched for 8 and 11, else as the velocity call leaves it
 
 unfoldable pub scratch_of : Verdict → List Float → List Float → List Float
-scratch_of Passed scratch after = after
-scratch_of (Refused refusal) scratch after = scratch
+scratch_of (Ok _) scratch after = after
+scratch_of (Err refusal) scratch after = scratch
 
-unfoldable pub scratch_open : Float → Rule → Fleet → ℕ → List Float → List Float
-scratch_open time_step rule fleet index scratch =
-    scratch_of (has_agent fleet index) scratch (reply_scratch time_step rule (agents fleet) index scratch)
+unfoldable pub scratch_open : Tick → Fleet → ℕ → List Float → List Float
+scratch_open tick fleet index scratch =
+    scratch_of (has_agent fleet index) scratch (reply_scratch tick.time_step tick.rule (agents fleet) index scratch)
 
-unfoldable pub scratch_in : Tick → Fleet → ℕ → List Float → List Float
-scratch_in Shut fleet index scratch = scratch
-scratch_in (Open time_step rule) fleet index scratch = scratch_open time_step rule fleet index scratch
+unfoldable pub scratch_in : Option Tick → Fleet → ℕ → List Float → List Float
+scratch_in None fleet index scratch = scratch
+scratch_in (Some tick) fleet index scratch = scratch_open tick fleet index scratch
 
 unfoldable pub plan_scratch : Fleet → ℕ → List Float → List Float
 plan_scratch fleet index scratch = scratch_in fleet.tick fleet index scratch

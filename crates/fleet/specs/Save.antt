@@ -1,8 +1,7 @@
 -- The call save: the standing records' bytes, written at the start of a lent buffer, in a tick too.
 use Rattle.std.specs.Prelude.{ℕ, ◌*◌, Bool, cond, List, ◌++◌, ltb, length, drop}
 use Rattle.refusals.specs.declared.Refusal.TheVariants.{ShortBuffer}
-use Rattle.refusals.specs.declared.Verdict.{Verdict}
-use Rattle.refusals.specs.Verdict.{refused_if}
+use Rattle.refusals.specs.Verdict.{Verdict, refused_if}
 use Rattle.records.specs.File.{record_bytes, file_of}
 use Rattle.fleet.specs.declared.Fleet.{Fleet}
 use Rattle.fleet.specs.declared.Saved.{Saved}

@@ -1,49 +1,44 @@
 -- What a fleet made by the calls is, and what a plan of such a fleet passes on. That they are so is claimed in `Claims.antt`.
-use Rattle.std.specs.Prelude.{ℕ, ◌≤◌, ◌<◌, ◌≡◌, true, List, [], ◌∷◌, length, get_or}
+use Rattle.std.specs.Prelude.{ℕ, ◌≤◌, ◌<◌, ◌≡◌, true, Option, Some, None, List, [], ◌∷◌, length, get_or}
+use Rattle.vectors.specs.declared.Vec3.{Vec3}
 use Rattle.vectors.specs.Vec3.{finite_vec, IsBinary32}
-use Rattle.refusals.specs.declared.Verdict.TheVariants.{Passed}
 use Rattle.requests.specs.Request.{preferred_place, max_speed_place}
 use Rattle.records.specs.declared.Record.{Record}
 use Rattle.records.specs.Record.{most_agents, per_record, blank}
 use Rattle.records.specs.Checks.{record_verdict}
 use Rattle.fleet.specs.declared.Answer.{Answer}
-use Rattle.fleet.specs.declared.Held.{Held}
-use Rattle.fleet.specs.declared.Held.TheVariants.{Nothing, Vector}
-use Rattle.fleet.specs.declared.Slot.{Slot}
 use Rattle.fleet.specs.declared.Tick.{Tick}
-use Rattle.fleet.specs.declared.Tick.TheVariants.{Shut, Open}
 use Rattle.fleet.specs.declared.Fleet.{Fleet}
 use Rattle.fleet.specs.Answer.{number, place_of}
-use Rattle.fleet.specs.Table.{agents, standing_of, fleet_of}
+use Rattle.fleet.specs.Table.{agents, fleet_of}
 use Rattle.fleet.specs.Tick.{step_verdict}
 use Rattle.fleet.specs.Calls.{Call}
+use Rattle.refusals.specs.Verdict.{passed}
 
 -- ---- a sound fleet
 
 -- a stored record has all its words and passes the record checks
 pub record Stored (r : Record) : Type 0 where
   pub words : length r.words ≡ per_record
-  pub passes : record_verdict 0 r ≡ Passed
+  pub passes : record_verdict 0 r ≡ passed
 
 -- a vector that is held is finite; its components are numbers of its type
-abbrev pub Storable : Held → Type 0
-Storable Nothing = Unit {0}
-Storable (Vector v) = (finite_vec v ≡ true) × IsBinary32 v
+abbrev pub Storable : Option Vec3 → Type 0
+Storable None = Unit {0}
+Storable (Some v) = (finite_vec v ≡ true) × IsBinary32 v
 
 -- a place for each agent there can be
-pub record AllStorable (slots : List Slot) : Type 0 where
-  pub many : length slots ≡ most_agents
-  pub each : (index : ℕ) → index < most_agents → Storable (get_or slots index (record { held = Nothing })).held
+pub record AllStorable (held : List (Option Vec3)) : Type 0 where
+  pub many : length held ≡ most_agents
+  pub each : (index : ℕ) → index < most_agents → Storable (get_or held index None)
 
 -- a tick is open only with a time step that open accepts
-abbrev pub Ticking : Tick → Type 0
-Ticking Shut = Unit {0}
-Ticking (Open time_step rule) = step_verdict time_step ≡ Passed
+abbrev pub Ticking : Option Tick → Type 0
+Ticking None = Unit {0}
+Ticking (Some tick) = step_verdict tick.time_step ≡ passed
 
 pub record Sound (fleet : Fleet) : Type 0 where
   pub few : length (agents fleet) ≤ most_agents
-  -- the count is that of the agents, and past the last of them all is blank
-  pub filled : fleet.standing ≡ standing_of (agents fleet)
   pub stored : (index : ℕ) → index < length (agents fleet) → Stored (get_or (agents fleet) index blank)
   pub ticking : Ticking fleet.tick
   pub plans : AllStorable fleet.plans
@@ -51,9 +46,9 @@ pub record Sound (fleet : Fleet) : Type 0 where
 
 -- ---- a fleet at rest
 
--- outside a tick nothing is held, and past the last of its agents all is blank
+-- outside a tick nothing is held
 abbrev pub Resting : Fleet → Type 0
-Resting fleet = fleet.tick ≡ Shut → fleet ≡ fleet_of (agents fleet)
+Resting fleet = fleet.tick ≡ None → fleet ≡ fleet_of (agents fleet)
 
 -- ---- what the types of a call's arguments say
 

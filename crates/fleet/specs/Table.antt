@@ -1,62 +1,52 @@
 -- The table: its agents as a list of records, and the calls add, put, remove and read.
-use Rattle.std.specs.Prelude.{ℕ, suc, cond, List, [], ◌∷◌, ◌++◌, ltb, length, get_or, take, drop, set, replicate}
+use Rattle.std.specs.Prelude.{ℕ, suc, cond, Option, Some, None, Ok, Err, List, [], ◌∷◌, ◌++◌, ltb, length, get_or, take, drop, set, replicate}
+use Rattle.vectors.specs.declared.Vec3.{Vec3}
 use Rattle.refusals.specs.declared.Refusal.TheVariants.{Full, TickOpen}
-use Rattle.refusals.specs.declared.Verdict.{Verdict}
-use Rattle.refusals.specs.declared.Verdict.TheVariants.{Passed, Refused}
-use Rattle.refusals.specs.Verdict.{◌⊳◌}
+use Rattle.refusals.specs.Verdict.{Verdict, passed, ◌⊳◌}
 use Rattle.records.specs.declared.Record.{Record}
 use Rattle.records.specs.Record.{most_agents, blank}
 use Rattle.records.specs.Checks.{index_among, record_verdict}
-use Rattle.records.specs.File.{filled}
 use Rattle.fleet.specs.declared.Answer.{Answer}
 use Rattle.fleet.specs.declared.Answer.TheVariants as answer
-use Rattle.fleet.specs.declared.Held.TheVariants.{Nothing}
-use Rattle.fleet.specs.declared.Slot.{Slot}
 use Rattle.fleet.specs.declared.Tick.{Tick}
-use Rattle.fleet.specs.declared.Tick.TheVariants.{Shut, Open}
-use Rattle.fleet.specs.declared.Standing.{Standing}
 use Rattle.fleet.specs.declared.Fleet.{Fleet}
 use Rattle.fleet.specs.declared.Called.{Called}
 use Rattle.fleet.specs.declared.Read.{Read}
 
 -- ---- a fleet and its agents
 
--- the standing records; a count over 64 reads as 64
-unfoldable pub agents : Fleet → List Record
-agents fleet = take fleet.standing.count fleet.standing.records
+-- the standing records
+abbrev pub agents : Fleet → List Record
+agents fleet = fleet.standing.items
 
--- so many slots with nothing held
-unfoldable pub nothing_held : List Slot
-nothing_held = replicate most_agents (record { held = Nothing })
-
--- the agents, and blank records past them
-unfoldable pub standing_of : List Record → Standing
-standing_of rs = record { count = length rs; records = filled rs }
+-- for so many agents nothing is held
+unfoldable pub nothing_held : List (Option Vec3)
+nothing_held = replicate most_agents None
 
 -- a fleet as it is outside a tick and at the opening of one
-unfoldable pub holding_nothing : Tick → List Record → Fleet
+unfoldable pub holding_nothing : Option Tick → List Record → Fleet
 holding_nothing tick rs = record {
-  standing = standing_of rs;
+  standing = record { items = rs };
   tick = tick;
   plans = nothing_held;
   goals = nothing_held;
 }
 
 abbrev pub fleet_of : List Record → Fleet
-fleet_of rs = holding_nothing Shut rs
+fleet_of rs = holding_nothing None rs
 
 -- ---- what a call hands back
 
 -- the new fleet where the call passed, and where it is refused the very fleet that it was given
 unfoldable pub settled : Verdict → Fleet → Fleet → Called
-settled Passed fleet next = record { answer = answer.Done; fleet = next }
-settled (Refused refusal) fleet next = record { answer = answer.Refused refusal; fleet = fleet }
+settled (Ok _) fleet next = record { answer = answer.Done; fleet = next }
+settled (Err refusal) fleet next = record { answer = answer.Refused refusal; fleet = fleet }
 
 -- ---- checks of more than one call
 
-unfoldable pub shut : Tick → Verdict
-shut Shut = Passed
-shut (Open time_step rule) = Refused TickOpen
+unfoldable pub shut : Option Tick → Verdict
+shut None = passed
+shut (Some tick) = Err TickOpen
 
 -- one of its agents has that index
 unfoldable pub has_agent : Fleet → ℕ → Verdict
@@ -65,9 +55,9 @@ has_agent fleet index = index_among (length (agents fleet)) index
 -- ---- add
 
 unfoldable pub room : ℕ → Verdict
-room count = cond (ltb count most_agents) Passed (Refused (Full most_agents))
+room count = cond (ltb count most_agents) passed (Err (Full most_agents))
 
-unfoldable pub add_verdict : Tick → ℕ → Record → Verdict
+unfoldable pub add_verdict : Option Tick → ℕ → Record → Verdict
 add_verdict tick count r = shut tick ⊳ room count ⊳ record_verdict 0 r
 
 unfoldable pub added : Fleet → Record → Fleet
@@ -80,7 +70,7 @@ add_call fleet words =
 
 -- ---- put
 
-unfoldable pub put_verdict : Tick → ℕ → ℕ → Record → Verdict
+unfoldable pub put_verdict : Option Tick → ℕ → ℕ → Record → Verdict
 put_verdict tick count index r = shut tick ⊳ index_among count index ⊳ record_verdict 0 r
 
 abbrev pub with_record : Fleet → ℕ → Record → Fleet
@@ -93,7 +83,7 @@ put_call fleet index words =
 
 -- ---- remove
 
-unfoldable pub remove_verdict : Tick → ℕ → ℕ → Verdict
+unfoldable pub remove_verdict : Option Tick → ℕ → ℕ → Verdict
 remove_verdict tick count index = shut tick ⊳ index_among count index
 
 -- later agents move down by one, all their words with them
@@ -107,8 +97,8 @@ remove_call fleet index =
 -- ---- read
 
 unfoldable pub answer_to : Verdict → Answer
-answer_to Passed = answer.Done
-answer_to (Refused refusal) = answer.Refused refusal
+answer_to (Ok _) = answer.Done
+answer_to (Err refusal) = answer.Refused refusal
 
 -- the standing record's words, in a tick too; zeros where it is refused
 unfoldable pub read_call : Fleet → ℕ → Read

@@ -2,9 +2,23 @@
 // `specs/Answer.antt`.
 ghost use Rattle.std.specs.Prelude.{◌≡◌};
 ghost use Rattle.fleet.specs.Answer.{number, place_of, velocity_of};
+ghost use Rattle.fleet.specs.Table.{answer_to};
 
 use super::Answer;
+use refusals::Refusal;
+use requests::replies::ReplyExt;
 use vectors::Vec3;
+
+// What a call's checks come to, where nothing else is answered. No From, which would be public: `read` alone asks it.
+#[tactic(auto, unfolding(crate::specs::Table::answer_to))]
+pub(crate) fn answer_to(verdict: Result<(), Refusal>) -> Answer
+    ensures { result ≡ answer_to verdict }
+{
+    match verdict {
+        Ok(()) => Answer::Done,
+        Err(refusal) => Answer::Refused(refusal),
+    }
+}
 
 impl Answer {
     // Its number in the documents' table.

@@ -11,66 +11,50 @@ pub mod table;
 pub mod ticks;
 
 use planner::Rule;
-use records::{MOST_AGENTS, RECORD_WORDS, Record};
+use records::{MOST_AGENTS, RECORD_WORDS, Records};
 use refusals::Refusal;
 use requests::Reply;
 use vectors::Vec3;
 
 // What a call on the table answers. A plan that the table does not refuse passes on what the velocity call
 // answers, a refusal or a velocity.
-#[derive(Clone, Copy)]
+// No Result: there are three cases, and `specs/Answer.antt` has a number and a place for each (`AnswerPlaces`).
+#[derive(Debug, Clone, Copy, PartialEq)]
 pub enum Answer {
     Done,
     Plan(Reply),
     Refused(Refusal),
 }
 
-// The tick that is open, if one is, as it was opened.
-#[derive(Clone, Copy)]
-pub enum Tick {
-    Shut,
-    Open { time_step: f32, rule: Rule },
+// A tick as it was opened.
+#[derive(Debug, Clone, Copy, PartialEq)]
+pub struct Tick {
+    pub time_step: f32,
+    pub rule: Rule,
 }
 
-// What is held for an agent until the tick ends.
-#[derive(Clone, Copy)]
-pub enum Held {
-    Nothing,
-    Vector(Vec3),
-}
-
-// An agent's place among what is held.
-#[derive(Clone, Copy)]
-pub struct Slot {
-    pub held: Held,
-}
-
-// What stands, in a tick and between ticks: the agents' records, of which there are `count`.
-#[derive(Clone, Copy)]
-pub struct Standing {
-    count: usize,
-    records: [Record; MOST_AGENTS],
-}
-
-// What stands; the tick; and for each agent the velocity planned and the last goal set in the tick. Only the calls
-// make one.
-#[derive(Clone, Copy)]
+// What stands, in a tick and between ticks: the agents' records; the tick that is open, if one is; and for each agent
+// the velocity planned and the last goal set in it. Only the calls make one.
+// Plans and goals stand beside the records, not in them: calls outside a tick hand on records alone, and `Sound` has a clause for each.
+#[derive(Clone, Drop)]
 pub struct Fleet {
-    standing: Standing,
-    tick: Tick,
-    plans: [Slot; MOST_AGENTS],
-    goals: [Slot; MOST_AGENTS],
+    standing: Records,
+    tick: Option<Tick>,
+    plans: [Option<Vec3>; MOST_AGENTS],
+    goals: [Option<Vec3>; MOST_AGENTS],
 }
 
 // What a call hands back. Refused, it is the very fleet that was given.
-#[derive(Clone, Copy)]
+// No Result: each call hands a fleet back, a refused one too (docs/DEFINITION.md, "The tick").
+#[derive(Clone, Drop)]
 pub struct Called {
     pub answer: Answer,
     pub fleet: Fleet,
 }
 
 // What the call save hands back: the fleet that was given, and how many bytes it wrote. Refused, none.
-#[derive(Clone, Copy)]
+// No Result: each call answers by the one type whose number and place `specs/Answer.antt` defines.
+#[derive(Clone, Drop)]
 pub struct Saved {
     pub answer: Answer,
     pub fleet: Fleet,
@@ -78,7 +62,8 @@ pub struct Saved {
 }
 
 // What the call read hands back. Refused, the words are zeros.
-#[derive(Clone, Copy)]
+// No Result: each call answers by the one type whose number and place `specs/Answer.antt` defines.
+#[derive(Clone, Drop)]
 pub struct Read {
     pub answer: Answer,
     pub words: [u32; RECORD_WORDS],

@@ -1,43 +1,32 @@
 // The call plan: the velocity call on the standing records, with the neighbours that the tick's rule keeps. The
 // definitions are in `specs/Plan.antt`.
 ghost use Rattle.std.specs.Prelude.{◌≡◌, ◌<◌, length};
+ghost use Rattle.refusals.specs.Verdict.{passed};
 ghost use Rattle.records.specs.Record.{most_agents};
-ghost use Rattle.fleet.specs.Plan.{plans_after, fleet_after, answered_by, plan_open, plan_call, scratch_open, plan_scratch};
+ghost use Rattle.fleet.specs.Plan.{fleet_after, answered_by, plan_open, plan_call, scratch_open, plan_scratch};
 
 use super::table::refused;
-use super::ticks::with_held;
-use super::{Answer, Called, Fleet, Slot, Tick};
-use planner::Rule;
+use super::{Answer, Called, Fleet, Tick};
 use planner::plan::reply_for;
-use records::MOST_AGENTS;
-use refusals::{Refusal, Verdict};
+use refusals::Refusal;
 use requests::Reply;
 
 // An answered velocity is held until the tick ends. A refusal leaves an earlier one standing.
-fn plans_after(plans: [Slot; MOST_AGENTS], index: usize, reply: Reply) -> [Slot; MOST_AGENTS]
-    requires { index < most_agents }
-    ensures { result ≡ plans_after plans index reply }
-{
-    if reply.is_answered() {
-        with_held(plans, index, reply.velocity())
-    } else {
-        plans
-    }
-}
-
+#[tactic(auto, unfolding(crate::specs::Plan::fleet_after, crate::specs::Plan::plans_after, crate::specs::Tick::with_held))]
 fn fleet_after(mut fleet: Fleet, index: usize, reply: Reply) -> Fleet
     requires { index < most_agents }
     ensures { result ≡ fleet_after fleet index reply }
 {
-    let plans = fleet.plans;
-    let after = plans_after(plans, index, reply);
-    fleet.plans = after;
+    if let Ok(course) = reply {
+        fleet.plans[index] = Some(course.velocity);
+    }
     fleet
 }
 
+#[tactic(auto, unfolding(crate::specs::Plan::answered_by))]
 fn answered(fleet: Fleet, index: usize, reply: Reply) -> Called
     requires { index < most_agents }
-    ensures { result ≡ answered_by Verdict.Passed fleet index reply }
+    ensures { result ≡ answered_by passed fleet index reply }
 {
     Called {
         answer: Answer::Plan(reply),
@@ -45,30 +34,29 @@ fn answered(fleet: Fleet, index: usize, reply: Reply) -> Called
     }
 }
 
-// Plan, where a tick is open.
-fn plan_open(fleet: Fleet, time_step: f32, rule: Rule, index: usize, scratch: &mut [f32]) -> Called
-    ensures answer { result ≡ plan_open time_step rule fleet index (length scratch.old) }
-    ensures scratch { scratch.new ≡ scratch_open time_step rule fleet index scratch.old }
+// Plan, where the tick is open.
+#[tactic(auto, unfolding(crate::specs::Table::settled, crate::specs::Plan::plan_open, crate::specs::Plan::answered_by, crate::specs::Plan::scratch_open, crate::specs::Plan::scratch_of))]
+fn plan_open(fleet: Fleet, tick: Tick, index: usize, scratch: &mut [f32]) -> Called
+    ensures answer { result ≡ plan_open tick fleet index (length scratch.old) }
+    ensures scratch { scratch.new ≡ scratch_open tick fleet index scratch.old }
 {
-    let count = fleet.agent_count();
-    if count <= index {
-        return refused(fleet, Refusal::NoAgent { index });
+    if let Err(refusal) = fleet.has_agent(index) {
+        return refused(fleet, refusal);
     }
-    let records = fleet.standing.records;
-    let reply = reply_for(time_step, rule, records, count, index, scratch);
+    let reply = reply_for(tick.time_step, tick.rule, &fleet.standing, index, scratch);
     answered(fleet, index, reply)
 }
 
 impl Fleet {
     // Plans the agent at `index`, on a scratch of 12 numbers for each neighbour.
+    #[tactic(auto, unfolding(crate::specs::Plan::plan_call, crate::specs::Plan::plan_in, crate::specs::Plan::plan_scratch, crate::specs::Plan::scratch_in))]
     pub fn plan(self, index: usize, scratch: &mut [f32]) -> Called
         ensures answer { result ≡ plan_call self index (length scratch.old) }
         ensures scratch { scratch.new ≡ plan_scratch self index scratch.old }
     {
-        let tick = self.tick;
-        let Tick::Open { time_step, rule } = tick else {
+        let Some(tick) = self.tick else {
             return refused(self, Refusal::NoTick);
         };
-        plan_open(self, time_step, rule, index, scratch)
+        plan_open(self, tick, index, scratch)
     }
 }

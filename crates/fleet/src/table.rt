@@ -1,66 +1,30 @@
 // The table and its calls add, put, remove and read. The definitions are in `specs/Table.antt`.
-ghost use Rattle.std.specs.Prelude.{◌≡◌, suc, ◌-◌, ◌≤◌, ◌<◌, [], ◌∷◌, ◌++◌, length, get_or, take, drop, replicate};
+ghost use Rattle.std.specs.Prelude.{◌≡◌, ◌≤◌, ◌<◌, [], length, get_or, Err, IsOk};
+ghost use Rattle.refusals.specs.Verdict.{passed};
 ghost use Rattle.records.specs.Record.{most_agents, blank};
-ghost use Rattle.records.specs.Checks.{index_among};
-ghost use Rattle.fleet.specs.Table.{agents, nothing_held, standing_of, holding_nothing, fleet_of, settled, add_verdict, added, add_call, put_verdict, with_record, put_call, remove_verdict, removed, remove_call, answer_to, read_call};
+ghost use Rattle.fleet.specs.Table.{agents, holding_nothing, fleet_of, settled, shut, has_agent, room, add_verdict, added, add_call, put_verdict, with_record, put_call, remove_verdict, removed, remove_call, read_call};
 
-use super::{Answer, Called, Fleet, Held, Read, Slot, Standing, Tick};
-use records::agents::in_range;
-use records::{MOST_AGENTS, RECORD_WORDS, Record};
-use refusals::{Refusal, Verdict};
+use super::answers::answer_to;
+use super::{Answer, Called, Fleet, Read, Tick};
+use records::{MOST_AGENTS, RECORD_WORDS, Record, Records};
+use refusals::Refusal;
 
-// The index of the last place in the table.
-const LAST: usize = 63;
-
-pub(crate) fn nothing_held() -> [Slot; MOST_AGENTS]
-    ensures { result ≡ nothing_held }
+// The fleet of these records, with nothing held.
+#[tactic(auto, unfolding(crate::specs::Table::holding_nothing, crate::specs::Table::nothing_held))]
+pub(crate) fn holding_nothing(tick: Option<Tick>, standing: Records) -> Fleet
+    ensures { result ≡ holding_nothing tick standing.items }
 {
-    [Slot {
-        held: Held::Nothing,
-    }; MOST_AGENTS]
-}
-
-// The first `count` records, and blank ones after them.
-fn blanked(records: [Record; MOST_AGENTS], count: usize) -> [Record; MOST_AGENTS]
-    ensures { result ≡ take count records ++ replicate (most_agents - count) blank }
-{
-    let mut out = records;
-    let mut index = count;
-    while index < MOST_AGENTS {
-        out[index] = Record::blank();
-        index += 1;
-    }
-    out
-}
-
-// The first `count` records.
-fn standing_of(records: [Record; MOST_AGENTS], count: usize) -> Standing
-    ensures { result ≡ standing_of (take count records) }
-{
-    let kept = blanked(records, count);
-    Standing {
-        count: in_range(count),
-        records: kept,
-    }
-}
-
-// The fleet of the first `count` records, with nothing held.
-pub(crate) fn holding_nothing(tick: Tick, records: [Record; MOST_AGENTS], count: usize) -> Fleet
-    ensures { result ≡ holding_nothing tick (take count records) }
-{
-    let standing = standing_of(records, count);
-    let plans = nothing_held();
-    let goals = nothing_held();
     Fleet {
         standing,
         tick,
-        plans,
-        goals,
+        plans: [None; MOST_AGENTS],
+        goals: [None; MOST_AGENTS],
     }
 }
 
+#[tactic(auto, unfolding(crate::specs::Table::settled))]
 pub(crate) fn done(fleet: Fleet) -> Called
-    ensures { result ≡ settled Verdict.Passed fleet fleet }
+    ensures { result ≡ settled passed fleet fleet }
 {
     Called {
         answer: Answer::Done,
@@ -68,8 +32,9 @@ pub(crate) fn done(fleet: Fleet) -> Called
     }
 }
 
+#[tactic(auto, unfolding(crate::specs::Table::settled))]
 pub(crate) fn refused(fleet: Fleet, refusal: Refusal) -> Called
-    ensures { result ≡ settled (Verdict.Refused refusal) fleet fleet }
+    ensures { result ≡ settled (Err refusal) fleet fleet }
 {
     Called {
         answer: Answer::Refused(refusal),
@@ -77,65 +42,27 @@ pub(crate) fn refused(fleet: Fleet, refusal: Refusal) -> Called
     }
 }
 
-// The records without the one at `index`: later ones move down by one.
-fn without(records: [Record; MOST_AGENTS], index: usize) -> [Record; MOST_AGENTS]
-    requires { index < most_agents }
-    ensures { result ≡ take index records ++ drop (suc index) records ++ blank ∷ [] }
+// Most calls are refused in a tick.
+#[tactic(auto, unfolding(crate::specs::Table::shut))]
+pub(crate) fn shut(tick: Option<Tick>) -> Result<(), Refusal>
+    ensures { result ≡ shut tick }
 {
-    let mut out = records;
-    let mut at = index;
-    while at < LAST {
-        out[at] = records[at + 1];
-        at += 1;
+    match tick {
+        None => Ok(()),
+        Some(_) => Err(Refusal::TickOpen),
     }
-    out[LAST] = Record::blank();
-    out
 }
 
-// The checks of add, put and remove, in document 01's order.
-fn add_verdict(tick: Tick, count: usize, stored: Record) -> Verdict
-    ensures { result ≡ add_verdict tick count stored }
+#[tactic(auto, unfolding(crate::specs::Table::room))]
+fn room(count: usize) -> Result<(), Refusal>
+    ensures verdict { result ≡ room count }
+    ensures within { IsOk result → count < most_agents }
 {
-    let Tick::Shut = tick else {
-        return Verdict::Refused(Refusal::TickOpen);
-    };
-    if MOST_AGENTS <= count {
-        return Verdict::Refused(Refusal::Full { most: MOST_AGENTS });
-    }
-    stored.verdict()
-}
-
-fn put_verdict(tick: Tick, count: usize, index: usize, stored: Record) -> Verdict
-    ensures { result ≡ put_verdict tick count index stored }
-{
-    let Tick::Shut = tick else {
-        return Verdict::Refused(Refusal::TickOpen);
-    };
-    if count <= index {
-        return Verdict::Refused(Refusal::NoAgent { index });
-    }
-    stored.verdict()
-}
-
-fn remove_verdict(tick: Tick, count: usize, index: usize) -> Verdict
-    ensures { result ≡ remove_verdict tick count index }
-{
-    let Tick::Shut = tick else {
-        return Verdict::Refused(Refusal::TickOpen);
-    };
-    if count <= index {
-        return Verdict::Refused(Refusal::NoAgent { index });
-    }
-    Verdict::Passed
-}
-
-fn read_answer(count: usize, index: usize) -> Answer
-    ensures { result ≡ answer_to (index_among count index) }
-{
-    if index < count {
-        Answer::Done
+    let has_room = count < MOST_AGENTS;
+    if has_room {
+        Ok(())
     } else {
-        Answer::Refused(Refusal::NoAgent { index })
+        Err(Refusal::Full { most: MOST_AGENTS })
     }
 }
 
@@ -144,119 +71,146 @@ impl Fleet {
     pub fn empty() -> Fleet
         ensures { result ≡ fleet_of [] }
     {
-        let records = [Record::blank(); MOST_AGENTS];
-        holding_nothing(Tick::Shut, records, 0)
+        holding_nothing(None, Records::new())
     }
 
     // How many agents there are.
-    pub fn agent_count(self) -> usize
-        ensures count { result ≡ length (agents self) }
+    pub fn agent_count(&self) -> usize
+        ensures count { result ≡ length (agents self.now) }
         ensures within { result ≤ most_agents }
     {
-        in_range(self.standing.count)
+        self.standing.len()
     }
 
-    // The standing record of the agent at `index`, or a blank one where there is none.
-    pub(crate) fn record_at(self, index: usize) -> Record
-        ensures { result ≡ get_or (agents self) index blank }
+    // The standing record of the agent at `index`, or a blank one where there is none. One call of std's, as in `own_record` of
+    // planner, which sees no fleet.
+    pub(crate) fn record_at(&self, index: usize) -> Record
+        ensures { result ≡ get_or (agents self.now) index blank }
     {
-        if self.agent_count() <= index {
-            return Record::blank();
+        self.standing.get(index).copied().unwrap_or(Record::blank())
+    }
+
+    // Whether an agent has that index.
+    // Each check says again that one has: it is a fact of an index and a fleet together, and in no value's type.
+    #[tactic(auto, unfolding(crate::specs::Table::has_agent))]
+    pub(crate) fn has_agent(&self, index: usize) -> Result<(), Refusal>
+        ensures verdict { result ≡ has_agent self.now index }
+        ensures among { IsOk result → index < length (agents self.now) }
+    {
+        let is_there = index < self.agent_count();
+        if is_there {
+            Ok(())
+        } else {
+            Err(Refusal::NoAgent { index })
         }
-        let records = self.standing.records;
-        records[index]
+    }
+
+    // The checks of add, put and remove, in document 01's order.
+    #[tactic(auto, unfolding(crate::specs::Table::add_verdict))]
+    fn add_verdict(&self, stored: Record) -> Result<(), Refusal>
+        ensures verdict { result ≡ add_verdict self.now.tick (length (agents self.now)) stored }
+        ensures within { IsOk result → length (agents self.now) < most_agents }
+    {
+        shut(self.tick)?;
+        room(self.agent_count())?;
+        stored.verdict()
+    }
+
+    #[tactic(auto, unfolding(crate::specs::Table::put_verdict, crate::specs::Table::has_agent))]
+    fn put_verdict(&self, index: usize, stored: Record) -> Result<(), Refusal>
+        ensures verdict { result ≡ put_verdict self.now.tick (length (agents self.now)) index stored }
+        ensures among { IsOk result → index < length (agents self.now) }
+    {
+        shut(self.tick)?;
+        self.has_agent(index)?;
+        stored.verdict()
+    }
+
+    #[tactic(auto, unfolding(crate::specs::Table::remove_verdict, crate::specs::Table::has_agent))]
+    fn remove_verdict(&self, index: usize) -> Result<(), Refusal>
+        ensures verdict { result ≡ remove_verdict self.now.tick (length (agents self.now)) index }
+        ensures among { IsOk result → index < length (agents self.now) }
+    {
+        shut(self.tick)?;
+        self.has_agent(index)
     }
 
     // The fleet outside a tick, with one agent more.
-    fn added(self, stored: Record) -> Fleet
+    #[tactic(auto, unfolding(crate::specs::Table::added))]
+    fn added(mut self, stored: Record) -> Fleet
         requires { length (agents self) < most_agents }
         ensures { result ≡ added self stored }
     {
-        let count = self.standing.count;
-        let mut records = self.standing.records;
-        records[count] = stored;
-        holding_nothing(Tick::Shut, records, count + 1)
+        self.standing.push(stored);
+        holding_nothing(None, self.standing)
     }
 
     // The fleet outside a tick, with another record at `index`.
-    pub(crate) fn with_record(self, index: usize, stored: Record) -> Fleet
+    pub(crate) fn with_record(mut self, index: usize, stored: Record) -> Fleet
         requires { index < length (agents self) }
         ensures { result ≡ with_record self index stored }
     {
-        let mut records = self.standing.records;
-        records[index] = stored;
-        holding_nothing(Tick::Shut, records, self.standing.count)
+        self.standing[index] = stored;
+        holding_nothing(None, self.standing)
     }
 
     // The fleet outside a tick, without the agent at `index`.
-    fn removed(self, index: usize) -> Fleet
+    #[tactic(auto, unfolding(crate::specs::Table::removed))]
+    fn removed(mut self, index: usize) -> Fleet
         requires { index < length (agents self) }
         ensures { result ≡ removed self index }
     {
-        let records = self.standing.records;
-        holding_nothing(
-            Tick::Shut,
-            without(records, index),
-            in_range(self.standing.count) - 1,
-        )
+        self.standing.remove(index);
+        holding_nothing(None, self.standing)
     }
 
+    // Each call ends by a match, and not by a function that takes what to do as a closure: that would have to be callable where
+    // the check refused too, and `added` is not.
+
     // Adds an agent with these words, after the others.
+    #[tactic(auto, unfolding(crate::specs::Table::add_call, crate::specs::Table::settled))]
     pub fn add(self, words: [u32; RECORD_WORDS]) -> Called
         ensures { result ≡ add_call self words }
     {
         let stored = Record { words };
-        let tick = self.tick;
-        if let Verdict::Refused(refusal) = add_verdict(
-            tick,
-            in_range(self.standing.count),
-            stored,
-        ) {
-            return refused(self, refusal);
+        match self.add_verdict(stored) {
+            Ok(()) => done(self.added(stored)),
+            Err(refusal) => refused(self, refusal),
         }
-        done(self.added(stored))
     }
 
     // Sets all words of the agent at `index`.
+    #[tactic(auto, unfolding(crate::specs::Table::put_call, crate::specs::Table::settled))]
     pub fn put(self, index: usize, words: [u32; RECORD_WORDS]) -> Called
         ensures { result ≡ put_call self index words }
     {
         let stored = Record { words };
-        let tick = self.tick;
-        if let Verdict::Refused(refusal) = put_verdict(
-            tick,
-            in_range(self.standing.count),
-            index,
-            stored,
-        ) {
-            return refused(self, refusal);
+        match self.put_verdict(index, stored) {
+            Ok(()) => done(self.with_record(index, stored)),
+            Err(refusal) => refused(self, refusal),
         }
-        done(self.with_record(index, stored))
     }
 
     // Removes the agent at `index`: later ones move down by one, all their words with them.
+    #[tactic(auto, unfolding(crate::specs::Table::remove_call, crate::specs::Table::settled))]
     pub fn remove(self, index: usize) -> Called
         ensures { result ≡ remove_call self index }
     {
-        let tick = self.tick;
-        if let Verdict::Refused(refusal) = remove_verdict(
-            tick,
-            in_range(self.standing.count),
-            index,
-        ) {
-            return refused(self, refusal);
+        match self.remove_verdict(index) {
+            Ok(()) => done(self.removed(index)),
+            Err(refusal) => refused(self, refusal),
         }
-        done(self.removed(index))
     }
 
     // The words of the standing record at `index`, in a tick too. Refused, they are zeros.
+    #[tactic(auto, unfolding(crate::specs::Table::read_call))]
     pub fn read(self, index: usize) -> Read
         ensures { result ≡ read_call self index }
     {
         let stored = self.record_at(index);
         let words = stored.words;
         Read {
-            answer: read_answer(self.agent_count(), index),
+            answer: answer_to(self.has_agent(index)),
             words,
             fleet: self,
         }
