@@ -1,19 +1,17 @@
 -- What follows a call that is refused, and one that is not.
 use mathlib.Core.Path.{◌≡◌, refl, sym, ap, ◌∙◌}
 use mathlib.Core.Bool.{Bool, true, false, not}
-use Prim.Native.Nat.{ℕ, ◌+◌}
-use native.Mathlib.Numerals.{add-one}
+use Prim.Native.Nat.{ℕ, suc, ◌+◌, ◌-◌, ◌<◌}
+use native.Mathlib.Omega.{arith}
 use lib.Ieee.{Float}
 use borrow.Author.Tests.{eqb-true, eq-eqb, ne_eqb, not-false}
 use Rattle.vectors.proofs.Truth.{no_truth}
-use Rattle.requests.specs.Checks.{full_scratch}
 use Rattle.planner.specs.declared.Rule.{Rule}
 use Rattle.fleet.specs.declared.Fleet.{Fleet}
 use Rattle.fleet.specs.declared.Called.{Called}
 use Rattle.fleet.specs.Answer.{number}
 use Rattle.fleet.specs.Tick.{open_call, drop_call}
-use Rattle.fleet.specs.Plan.{plan_call}
-use Rattle.flight.specs.Tick.{is_refused, unless_refused, first_planned, or_dropped, flown, one_tick}
+use Rattle.flight.specs.Tick.{is_refused, unless_refused, or_dropped, flown, one_tick, ticks_in_turn}
 
 -- ---- refused or not, by the answer's number
 
@@ -51,12 +49,6 @@ module _ (last : Called) (call : Fleet → Called) where
       go true is = no_truth (sym e ∙ sym (ap is_refused (handed-on is)) ∙ is)
       go false is = is
 
--- one agent more
-pub one_more : (opened last : Called) (i k : ℕ) → last ≡ first_planned i opened → k ≡ full_scratch
-    → unless_refused last (λ fleet. plan_call fleet i k) ≡ first_planned (i + 1) opened
-unfolding first_planned
-one_more opened last i k so_far enough = rw (so_far, enough, add-one)
-
 -- ---- a tick that is dropped, or not
 
 module _ (last : Called) where
@@ -87,3 +79,13 @@ module _ (fleet : Fleet) (time_step : Float) (rule : Rule) (opened : Called) (is
   pub is-opened : is_refused opened ≡ false → flown opened ≡ one_tick time_step rule fleet
   unfolding one_tick
   is-opened e = rw (← is, e)
+
+-- ---- ticks one after another
+
+-- one tick of those that are left
+pub turn_done : (count counter : ℕ) (time_step : Float) (rule : Rule) (fleet : Fleet) (last : Called) → last ≡ one_tick time_step rule fleet → counter < count
+    → is_refused last ≡ false → ticks_in_turn (count - (counter + 1)) time_step rule last.fleet ≡ ticks_in_turn (count - counter) time_step rule fleet
+unfolding ticks_in_turn unless_refused
+turn_done count counter time_step rule fleet last is more goes =
+    let left : count - counter ≡ suc (count - (counter + 1)) = omega arith in
+    simp (left, ← is, goes)

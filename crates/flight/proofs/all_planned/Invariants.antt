@@ -1,12 +1,8 @@
 use mathlib.Core.Path.{◌≡◌}
-use Prim.Native.Nat.{◌-◌, ◌≤◌}
 use lib.ListN.{length}
 use Rattle.requests.specs.Checks.{full_scratch}
 use Rattle.flight.specs.Tick.{first_planned}
 use Rattle.flight.proofs.all_planned.Given as goal
 
 abbrev pub invariant-loop-index : goal.invariant-loop-index
-invariant-loop-index l = (length l.scratch ≡ full_scratch) × (l.index ≤ l.count) × (l.last ≡ first_planned l.index l.initial.last)
-
-abbrev pub decreases-loop-index : goal.decreases-loop-index
-decreases-loop-index l = l.count - l.index
+invariant-loop-index l = (length l.scratch ≡ full_scratch) × (l.last ≡ first_planned l.index-counter l.fn.opened)

@@ -1,9 +1,8 @@
 use mathlib.Core.Path.{◌≡◌}
+use Prim.Native.Nat.{◌-◌}
 use Rattle.flight.specs.Tick.{ticks_in_turn}
 use Rattle.flight.proofs.ticks_in_turn.Given as goal
 
-abbrev pub invariant-loop-left : goal.invariant-loop-left
-invariant-loop-left l = ticks_in_turn l.left l.time_step l.rule l.fleet ≡ ticks_in_turn l.initial.left l.time_step l.rule l.initial.fleet
-
-abbrev pub decreases-loop-left : goal.decreases-loop-left
-decreases-loop-left l = l.left
+-- what is left to fly gives the same answer
+abbrev pub invariant-loop : goal.invariant-loop
+invariant-loop l = ticks_in_turn (l.count - l.counter) l.time_step l.rule l.fleet ≡ ticks_in_turn l.count l.time_step l.rule l.fn.fleet
