@@ -1,12 +1,9 @@
 -- The exported velocity call: `velocity` of avoidance, with its request and its answer as numbers in lent memory.
-use Rattle.std.specs.Prelude.{ℕ, Bool, ◌&&◌, cond, List, [], ◌∷◌, eqb, length, Float}
+use Rattle.std.specs.Prelude.{ℕ, Bool, ◌&&◌, cond, List, [], ◌∷◌, eqb, length, Float, Option, Some, None}
 use Rattle.vectors.specs.declared.Vec3.{Vec3}
-use Rattle.refusals.specs.declared.Found.{Found}
-use Rattle.refusals.specs.declared.Found.TheVariants.{At, Nothing}
-use Rattle.requests.specs.declared.Reply.{Reply}
 use Rattle.requests.specs.Request.{per_request}
 use Rattle.planes.specs.Lent.{request_at}
-use Rattle.requests.specs.Reply.{number, place_of, velocity_of, relaxed_of, unseen_of}
+use Rattle.requests.specs.Reply.{number, place_of, velocity_of, relaxed_of, unseen_of, Reply}
 use Rattle.guineacrumb.specs.Unfit.{unfit}
 use Rattle.avoidance.specs.Velocity.{velocity_call, scratch_after}
 
@@ -25,9 +22,9 @@ components_of v = v.x ∷ v.y ∷ v.z ∷ []
 abbrev pub none : ℕ
 none = 0xFFFF_FFFF_FFFF_FFFF
 
-abbrev pub or_none : Found → ℕ
-or_none (At index) = index
-or_none Nothing = none
+abbrev pub or_none : Option ℕ → ℕ
+or_none (Some index) = index
+or_none None = none
 
 -- ---- the answer, and what is left in what was lent: as it was where the lengths do not fit
 

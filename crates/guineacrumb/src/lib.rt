@@ -10,21 +10,23 @@ ghost use Rattle.guineacrumb.specs.Version.{version};
 ghost use Rattle.guineacrumb.specs.Tick.{tick_answer, file_left, tick_place_left};
 ghost use Rattle.guineacrumb.specs.Velocity.{components_of, or_none, answer, scratch_left, velocity_left, place_left, relaxed_left, unseen_left};
 
-use planes::lent::{ReadRequest, read_request};
+use planes::lent::read_request;
 use planner::Rule;
-use refusals::Found;
+use requests::replies::ReplyExt;
 use vectors::Vec3;
 
-// The answer to arguments that do not fit: lengths, or a rule that there is not.
+// The answer to arguments that do not fit: lengths, or a rule that there is not. A number, since C has no Result.
 const UNFIT: u32 = 255;
 
 // The version of the library, a byte each for its three numbers.
 const VERSION: u32 = 0x00_02_00;
 
+// `u64` is not `From<usize>`, so places and indices are cast below.
+
 // The numbers of a velocity.
 const VELOCITY_NUMBERS: usize = 3;
 
-// What stands for no plane, and for no neighbour.
+// What stands for no plane, and for no neighbour: C has no Option.
 const NONE: u64 = 0xFFFF_FFFF_FFFF_FFFF;
 
 // The version that include/guineacrumb.h names.
@@ -51,13 +53,10 @@ pub extern "C" fn guineacrumb_roots(numbers: &mut [f32; 8])
     *numbers = vectors::roots::roots(*numbers);
 }
 
-fn or_none(found: Found) -> u64
+fn or_none(found: Option<usize>) -> u64
     ensures { result ≡ or_none found }
 {
-    match found {
-        Found::At(index) => index as u64,
-        Found::Nothing => NONE,
-    }
+    found.map_or(NONE, |index| index as u64)
 }
 
 fn write(vector: &mut [f32], v: Vec3)
@@ -91,7 +90,7 @@ pub extern "C" fn guineacrumb_velocity(
     if velocity.len() != VELOCITY_NUMBERS {
         return UNFIT;
     }
-    let ReadRequest::Is(asked) = read_request(request) else {
+    let Some(asked) = read_request(request) else {
         return UNFIT;
     };
     let reply = avoidance::velocity::velocity(asked, neighbours, scratch);
@@ -125,11 +124,8 @@ pub extern "C" fn guineacrumb_tick(
     ensures file { file.new ≡ file_left file.old time_step rule }
     ensures place { place.new ≡ tick_place_left file.old time_step rule place.old }
 {
-    if rule == 0 {
-        return ticked(file, time_step, Rule::Source, place);
-    }
-    if rule == 1 {
-        return ticked(file, time_step, Rule::Near, place);
-    }
-    UNFIT
+    let Ok(rule) = Rule::try_from(rule) else {
+        return UNFIT;
+    };
+    ticked(file, time_step, rule, place)
 }

@@ -1,41 +1,45 @@
 -- Each rule's number gives the tick by that rule, and any other leaves what was lent as it was.
-use mathlib.Core.Path.{◌≡◌, ◌∙◌}
+use mathlib.Core.Path.{◌≡◌, refl, sym, ap, ◌∙◌}
+use mathlib.Core.Bool.{Bool, true, false, cond}
 use Prim.Native.Nat.{ℕ}
+use lib.Dec.{eqb}
+use Rattle.std.specs.Prelude.{Result, Ok, Err}
 use Rattle.planner.specs.declared.Rule.{Rule}
 use Rattle.planner.specs.declared.Rule.TheVariants.{Source, Near}
+use Rattle.planner.specs.declared.UnknownRule.{UnknownRule}
+use Rattle.planner.specs.Rule.{rule_of}
 use Rattle.guineacrumb.specs.Tick.{by_rule, tick_answer, file_left, tick_place_left}
-use borrow.Author.Tests.{eq-eqb, ne_eqb}
 use Rattle.guineacrumb.proofs.guineacrumb_tick.Goals as goal
 
+-- what a number comes to, by the rule that it is read as
+abbrev given : {A : Type 0} → Result Rule UnknownRule → (Rule → A) → A → A
+given (Ok rule) by other = by rule
+given (Err unknown) by other = other
+
 module _ {A : Type 0} (rule : ℕ) (by : Rule → A) (other : A) where
-  by-source : rule ≡ 0 → by Source ≡ by_rule rule by other
+  named : by_rule rule by other ≡ given (rule_of rule) by other
   unfolding by_rule
-  by-source e = rw (eq-eqb rule 0 e)
+  named = go (eqb rule 0) (eqb rule 1)
+    where
+      go : (source near : Bool) → cond source (by Source) (cond near (by Near) other) ≡ given (cond source (Ok Source) (cond near (Ok Near) (Err (record { number = rule })))) by other
+      go true near = refl
+      go false true = refl
+      go false false = refl
 
-  by_near : (rule ≡ 0 → ⊥) → rule ≡ 1 → by Near ≡ by_rule rule by other
-  unfolding by_rule
-  by_near not-source e = rw (ne_eqb rule 0 not-source, eq-eqb rule 1 e)
+  by-read : (read : Rule) → rule_of rule ≡ Ok read → by read ≡ by_rule rule by other
+  by-read read e = sym (named ∙ ap (λ (f : Result Rule UnknownRule). given f by other) e)
 
-  by-none : (rule ≡ 0 → ⊥) → (rule ≡ 1 → ⊥) → other ≡ by_rule rule by other
-  unfolding by_rule
-  by-none not-source not-near = rw (ne_eqb rule 0 not-source, ne_eqb rule 1 not-near)
+  by-none : (unknown : UnknownRule) → rule_of rule ≡ Err unknown → other ≡ by_rule rule by other
+  by-none unknown e = sym (named ∙ ap (λ (f : Result Rule UnknownRule). given f by other) e)
 
-pub returns-then-rule-eq0 : goal.returns-then-rule-eq0
+pub returns-in_default : goal.returns-in_default
 unfolding tick_answer file_left tick_place_left
-returns-then-rule-eq0 c =
-    let is = c.if-rule-eq0.true in
-    record { answer = c.ticked.ensures.answer ∙ by-source _ _ _ is; file = c.ticked.ensures.file ∙ by-source _ _ _ is; place = c.ticked.ensures.place ∙ by-source _ _ _ is }
-
-pub returns-then-rule-eq1 : goal.returns-then-rule-eq1
-unfolding tick_answer file_left tick_place_left
-returns-then-rule-eq1 c =
-    let not = c.if-rule-eq0.false in
-    let is = c.if-rule-eq1.true in
-    record { answer = c.ticked-then-rule-eq1.ensures.answer ∙ by_near _ _ _ not is; file = c.ticked-then-rule-eq1.ensures.file ∙ by_near _ _ _ not is; place = c.ticked-then-rule-eq1.ensures.place ∙ by_near _ _ _ not is }
+returns-in_default c =
+    let is = sym c.try_from.ensures ∙ c.in_default.is in
+    record { answer = by-none _ _ _ _ is; file = by-none _ _ _ _ is; place = by-none _ _ _ _ is }
 
 pub returns : goal.returns
 unfolding tick_answer file_left tick_place_left
 returns c =
-    let not-source = c.if-rule-eq0.false in
-    let not-near = c.if-rule-eq1.false in
-    record { answer = by-none _ _ _ not-source not-near; file = by-none _ _ _ not-source not-near; place = by-none _ _ _ not-source not-near }
+    let is = sym c.try_from.ensures ∙ c.in-Ok.is in
+    record { answer = c.ticked.ensures.answer ∙ by-read _ _ _ _ is; file = c.ticked.ensures.file ∙ by-read _ _ _ _ is; place = c.ticked.ensures.place ∙ by-read _ _ _ _ is }

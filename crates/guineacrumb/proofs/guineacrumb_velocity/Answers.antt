@@ -7,7 +7,7 @@ use lib.ListN.{length}
 use lib.Ieee.{Float}
 use borrow.Author.Tests.{eq-eqb, ne_eqb}
 use Rattle.requests.specs.declared.Request.{Request}
-use Rattle.planes.specs.declared.lent.ReadRequest.TheVariants.{Is, BadLength}
+use Rattle.std.specs.Prelude.{Some, None}
 use Rattle.requests.specs.Request.{per_request}
 use Rattle.planes.specs.Lent.{request_at, read_request}
 use Rattle.planes.proofs.lent.RequestLaws.{not-read, is_read}
@@ -24,11 +24,11 @@ module _ (velocity request : List Float) where
       go true = ne_eqb (length velocity) 3 other
       go false = refl
 
-  bad-request : read_request request ≡ BadLength → fits request velocity ≡ false
+  bad-request : read_request request ≡ None → fits request velocity ≡ false
   unfolding fits
   bad-request e = rw (not-read request e)
 
-  good : (asked : Request) → length velocity ≡ 3 → read_request request ≡ Is asked → (fits request velocity ≡ true) × (asked ≡ request_at request)
+  good : (asked : Request) → length velocity ≡ 3 → read_request request ≡ Some asked → (fits request velocity ≡ true) × (asked ≡ request_at request)
   unfolding fits
   good asked three e =
       let (long, same) = is_read request asked e in
@@ -49,7 +49,7 @@ returns-in_default c =
 pub returns : goal.returns
 unfolding answer scratch_left velocity_left place_left relaxed_left unseen_left reply_to
 returns c =
-    let fit = good c.args.velocity.now c.args.request.now _ c.if-velocity-ne-VELOCITY_NUMBERS.false (sym c.read_request.ensures ∙ c.in-Is.is) in
+    let fit = good c.args.velocity.now c.args.request.now _ c.if-velocity-ne-VELOCITY_NUMBERS.false (sym c.read_request.ensures ∙ c.in-Some.is) in
     let fits = fit.0 in
     let request = fit.1 in
     let reply = c.velocity-reply.ensures.answer in
