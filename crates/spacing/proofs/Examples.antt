@@ -5,9 +5,9 @@ use mathlib.Core.Bool.{Bool, true, false}
 use mathlib.Core.List.{List, [], ◌∷◌, map}
 use lib.IntN.{ℤ, pos, negsuc}
 use lib.Ieee.{lt, mul, of_bits, to_bits}
+use Rattle.std.specs.Prelude.{Some, None}
 use Rattle.vectors.specs.Number.{of_word, to_word, ◌⊗◌}
 use Rattle.spacing.specs.declared.Sighting.{Sighting}
-use Rattle.spacing.specs.declared.Smallest.TheVariants.{Nowhere, Seen}
 use Rattle.spacing.specs.declared.Report.{Report}
 use Rattle.spacing.specs.Millimetres.{whole_nearest, millimetres}
 use Rattle.spacing.specs.Frame.{out_of_reach, positions, squared, sighted, pairs}
@@ -93,16 +93,16 @@ examples =
     ∷ component 0x0000_0001 (pos 0)
     ∷ component 0x8000_0000 (pos 0)
     -- the largest distance
-    ∷ report 1 ((minus_far ∷ minus_far ∷ minus_far ∷ far ∷ far ∷ far ∷ []) ∷ []) (record { frames = 1; smallest = Seen (seen 3221225472000000 0 0 1); below = 0 })
+    ∷ report 1 ((minus_far ∷ minus_far ∷ minus_far ∷ far ∷ far ∷ far ∷ []) ∷ []) (record { frames = 1; smallest = Some (seen 3221225472000000 0 0 1); below = 0 })
     -- a pair at the limit is not below it
-    ∷ report 1500 (two ∷ []) (record { frames = 1; smallest = Seen (seen 2250000 0 0 1); below = 0 })
-    ∷ report 1501 (two ∷ []) (record { frames = 1; smallest = Seen (seen 2250000 0 0 1); below = 1 })
+    ∷ report 1500 (two ∷ []) (record { frames = 1; smallest = Some (seen 2250000 0 0 1); below = 0 })
+    ∷ report 1501 (two ∷ []) (record { frames = 1; smallest = Some (seen 2250000 0 0 1); below = 1 })
     -- of two pairs that are equal the lower, and of two frames the first, where the later one's pair is lower
-    ∷ report 1001 (three ∷ []) (record { frames = 1; smallest = Seen (seen 1000000 0 0 1); below = 2 })
-    ∷ report 1001 ((o ∷ o ∷ o ∷ far ∷ o ∷ o ∷ far ∷ o ∷ i ∷ []) ∷ lower ∷ []) (record { frames = 2; smallest = Seen (seen 1000000 0 1 2); below = 2 })
+    ∷ report 1001 (three ∷ []) (record { frames = 1; smallest = Some (seen 1000000 0 0 1); below = 2 })
+    ∷ report 1001 ((o ∷ o ∷ o ∷ far ∷ o ∷ o ∷ far ∷ o ∷ i ∷ []) ∷ lower ∷ []) (record { frames = 2; smallest = Some (seen 1000000 0 1 2); below = 2 })
     -- with fewer than two agents there is no smallest
-    ∷ report 1500 ((o ∷ o ∷ o ∷ []) ∷ (i ∷ o ∷ o ∷ []) ∷ []) (record { frames = 2; smallest = Nowhere; below = 0 })
-    ∷ report 1500 ([] ∷ []) (record { frames = 1; smallest = Nowhere; below = 0 })
+    ∷ report 1500 ((o ∷ o ∷ o ∷ []) ∷ (i ∷ o ∷ o ∷ []) ∷ []) (record { frames = 2; smallest = None; below = 0 })
+    ∷ report 1500 ([] ∷ []) (record { frames = 1; smallest = None; below = 0 })
     ∷ []
 
 pub worked-examples : All examples

@@ -8,14 +8,13 @@ use native.Mathlib.Omega.{arith}
 use lib.Dec.{leb, eqb}
 use lib.ListN.{length, get_or}
 use lib.Ieee.{Float, nan}
+use Rattle.std.specs.Prelude.{Ok, Err}
 use borrow.Author.Tests.{leb-true, leb-false, eqb-true, eqb-false}
 use Rattle.spacing.specs.declared.Refusal.TheVariants.{TooManyAgents, WrongLength, TooManyFrames, OutOfReach}
-use Rattle.spacing.specs.declared.Answer.{Answer}
-use Rattle.spacing.specs.declared.Answer.TheVariants.{Done, Refused}
 use Rattle.spacing.specs.declared.Tally.{Tally}
 use Rattle.spacing.specs.declared.Tallied.{Tallied}
 use Rattle.spacing.specs.Frame.{out_of_reach}
-use Rattle.spacing.specs.Answers.{most_agents, most_frames, number, place_of}
+use Rattle.spacing.specs.Answers.{most_agents, most_frames, Answer, done, number, place_of}
 use Rattle.spacing.specs.Tally.{fresh, begun, within_reach, frame_answer, agents_of, tally_after, stepped_by}
 use Rattle.spacing.specs.Claims.{all_within, BegunForNone, RefusedFrameUnchanged, LowestOut, Exactly}
 
@@ -26,10 +25,10 @@ unfolding begun number place_of
 begun-for-none agents limit = go (leb agents most_agents) refl
   where
     none : Tallied
-    none = record { answer = Refused TooManyAgents; tally = fresh 0 limit }
+    none = record { answer = Err TooManyAgents; tally = fresh 0 limit }
 
     tallied : Bool → Tallied
-    tallied b = cond b (record { answer = Done; tally = fresh agents limit }) none
+    tallied b = cond b (record { answer = done; tally = fresh agents limit }) none
 
     go : (b : Bool) → leb agents most_agents ≡ b
         → (number (tallied b).answer ≡ 9 ↔ most_agents < agents)
@@ -47,8 +46,8 @@ unfolding stepped_by number tally_after
 refused-frame-unchanged tally frame = go (frame_answer (agents_of tally) tally.report.frames frame)
   where
     go : (answer : Answer) → (number answer ≡ 0 → ⊥) → tally_after answer tally frame ≡ tally
-    go Done refused = absurd (refused refl)
-    go (Refused refusal) refused = refl
+    go (Ok _) refused = absurd (refused refl)
+    go (Err refusal) refused = refl
 
 -- ---- within reach
 
@@ -66,8 +65,8 @@ not_within (x ∷ xs) (suc k) h out = go (out_of_reach x) (not_within xs k (omeg
 
 -- the answer to components of which the first is at `place`
 data Reached (place : ℕ) (xs : List Float) : Answer → Type 0 where
-  inside : all_within xs ≡ true → Reached place xs Done
-  outside : (k at : ℕ) → at ≡ place + k → LowestOut xs k → Reached place xs (Refused (OutOfReach at))
+  inside : all_within xs ≡ true → Reached place xs done
+  outside : (k at : ℕ) → at ≡ place + k → LowestOut xs k → Reached place xs (Err (OutOfReach at))
 
 reached : (place : ℕ) (xs : List Float) → Reached place xs (within_reach place xs)
 unfolding within_reach all_within
@@ -82,7 +81,7 @@ reached place (x ∷ xs) = go (out_of_reach x) refl (reached (suc place) xs)
         before (suc j) h = low.none_before j (omega arith)
 
     go : {answer : Answer} (b : Bool) → out_of_reach x ≡ b → Reached (suc place) xs answer
-        → Reached place (x ∷ xs) (cond b (Refused (OutOfReach place)) answer)
+        → Reached place (x ∷ xs) (cond b (Err (OutOfReach place)) answer)
     go true e r =
         outside 0 place (omega arith) (record { there = omega arith; out = e; none_before = λ j h. absurd (omega arith) })
     go false e (inside all) = inside (rw e all)
@@ -92,11 +91,11 @@ reached place (x ∷ xs) = go (out_of_reach x) refl (reached (suc place) xs)
 
 -- the four answers to a frame, each with what it takes
 pub data Answered (agents frames : ℕ) (frame : List Float) : Answer → Type 0 where
-  wrong-length : (length frame ≡ 3 * agents → ⊥) → Answered agents frames frame (Refused (WrongLength (length frame)))
-  full : length frame ≡ 3 * agents → most_frames ≤ frames → Answered agents frames frame (Refused TooManyFrames)
+  wrong-length : (length frame ≡ 3 * agents → ⊥) → Answered agents frames frame (Err (WrongLength (length frame)))
+  full : length frame ≡ 3 * agents → most_frames ≤ frames → Answered agents frames frame (Err TooManyFrames)
   out-of-reach : length frame ≡ 3 * agents → frames < most_frames → (k : ℕ) → LowestOut frame k
-      → Answered agents frames frame (Refused (OutOfReach k))
-  taken : length frame ≡ 3 * agents → frames < most_frames → all_within frame ≡ true → Answered agents frames frame Done
+      → Answered agents frames frame (Err (OutOfReach k))
+  taken : length frame ≡ 3 * agents → frames < most_frames → all_within frame ≡ true → Answered agents frames frame done
 
 pub answered : (agents frames : ℕ) (frame : List Float) → Answered agents frames frame (frame_answer agents frames frame)
 unfolding frame_answer
@@ -104,7 +103,7 @@ answered agents frames frame = go (eqb (length frame) (3 * agents)) (leb most_fr
   where
     go : {answer : Answer} (same all : Bool) → eqb (length frame) (3 * agents) ≡ same → leb most_frames frames ≡ all
         → Reached 0 frame answer
-        → Answered agents frames frame (cond (not same) (Refused (WrongLength (length frame))) (cond all (Refused TooManyFrames) answer))
+        → Answered agents frames frame (cond (not same) (Err (WrongLength (length frame))) (cond all (Err TooManyFrames) answer))
     go false all e e' r = wrong-length (eqb-false (length frame) (3 * agents) e)
     go true true e e' r = full (eqb-true (length frame) (3 * agents) e) (leb-true most_frames frames e')
     go true false e e' (inside within) =

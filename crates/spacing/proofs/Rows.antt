@@ -1,5 +1,5 @@
 -- One agent's pairs: the turns of the loops over them, and that a glance at them, with the pair that it finds, is what the pairs one after another leave.
-use mathlib.Core.Path.{◌≡◌, refl, sym, ap, ◌∙◌, subst}
+use mathlib.Core.Path.{◌≡◌, refl, ap, ◌∙◌}
 use mathlib.Core.Bool.{Bool, true, false, cond}
 use mathlib.Core.List.{List, [], ◌∷◌}
 use Prim.Native.Nat.{ℕ, suc, ◌+◌, ◌-◌, ◌≤◌, ◌<◌}
@@ -9,59 +9,53 @@ use lib.Dec.{ltb, eqb}
 use borrow.Author.Tests.{lt-ltb, le-ltb, ltb-true, ltb-false, eq-eqb, ne_eqb}
 use Rattle.spacing.specs.declared.pairs.Glance.{Glance}
 use Rattle.spacing.specs.declared.pairs.Running.{Running}
-use Rattle.spacing.specs.parts.Pairs.{listed, with_square, glanced, second_of, with_pair, with_row}
+use Rattle.spacing.specs.declared.spots.Spots.{Spots}
+use Rattle.spacing.specs.parts.Spots.{squared_at, listed, squares_from}
+use Rattle.spacing.specs.parts.Pairs.{with_square, glanced, second_of, with_pair, with_row}
 
--- ---- the list of squares
+-- ---- an agent's squares
 
-module _ (f : ℕ → ℕ) (agents second : ℕ) where
-  one_more : second < agents → listed (agents - second) second f ≡ f second ∷ listed (agents - suc second) (suc second) f
-  unfolding listed
-  one_more h = let left : agents - second ≡ suc (agents - suc second) = omega arith in ap (λ (n : ℕ). listed n second f) left
+module _ (spots : Spots) (first second : ℕ) where
+  one_more : second < spots.agents → squares_from spots first second ≡ squared_at spots first second ∷ squares_from spots first (second + 1)
+  unfolding listed squares_from
+  one_more h =
+      let left : spots.agents - second ≡ suc (spots.agents - suc second) = omega arith in
+      rw (left, add-one second)
 
-  none_left : agents ≤ second → listed (agents - second) second f ≡ []
-  unfolding listed
-  none_left h = let left : agents - second ≡ 0 = omega arith in ap (λ (n : ℕ). listed n second f) left
+  none_left : spots.agents ≤ second → squares_from spots first second ≡ []
+  unfolding listed squares_from
+  none_left h = let left : spots.agents - second ≡ 0 = omega arith in rw left
 
   -- ---- a glance
 
-  -- g' is g with one more square, so what is left gives the same
-  pub again : (limit : ℕ) (g g' whole : Glance) → second < agents → g' ≡ with_square limit g (f second)
-      → glanced limit g (listed (agents - second) second f) ≡ whole
-      → glanced limit g' (listed (agents - (second + 1)) (second + 1) f) ≡ whole
+  pub glance_more : (limit : ℕ) (g : Glance) → second < spots.agents
+      → glanced limit g (squares_from spots first second)
+      ≡ glanced limit (with_square limit g (squared_at spots first second)) (squares_from spots first (second + 1))
   unfolding glanced
-  again limit g g' whole h is same =
-      ap (λ (n : ℕ). glanced limit g' (listed (agents - n) n f)) (add-one second)
-      ∙ ap (λ (q : Glance). glanced limit q (listed (agents - suc second) (suc second) f)) is
-      ∙ sym (ap (glanced limit g) (one_more h))
-      ∙ same
+  glance_more limit g h = rw (one_more h)
 
-  pub end : (limit : ℕ) (g : Glance) → agents ≤ second → glanced limit g (listed (agents - second) second f) ≡ g
+  pub glance_end : (limit : ℕ) (g : Glance) → spots.agents ≤ second → glanced limit g (squares_from spots first second) ≡ g
   unfolding glanced
-  end limit g h = ap (glanced limit g) (none_left h)
+  glance_end limit g h = rw (none_left h)
 
   -- ---- the pair that has the least square
 
-  pub here : (least : ℕ) → second < agents → f second ≡ least → second_of least second (listed (agents - second) second f) ≡ second
+  pub here : (least : ℕ) → second < spots.agents → squared_at spots first second ≡ least → second_of least second (squares_from spots first second) ≡ second
   unfolding second_of
-  here least h is = ap (second_of least second) (one_more h) ∙ rw (eq-eqb (f second) least is)
+  here least h is = rw (one_more h, eq-eqb (squared_at spots first second) least is)
 
-  pub later : (least : ℕ) → second < agents → (f second ≡ least → ⊥)
-      → second_of least second (listed (agents - second) second f) ≡ second_of least (second + 1) (listed (agents - (second + 1)) (second + 1) f)
+  pub later : (least : ℕ) → second < spots.agents → (squared_at spots first second ≡ least → ⊥)
+      → second_of least second (squares_from spots first second) ≡ second_of least (second + 1) (squares_from spots first (second + 1))
   unfolding second_of
-  later least h is = ap (second_of least second) (one_more h) ∙ rw (ne_eqb (f second) least is, add-one second)
+  later least h is = rw (one_more h, ne_eqb (squared_at spots first second) least is, add-one second)
 
-  pub nowhere : (least : ℕ) → agents ≤ second → second_of least second (listed (agents - second) second f) ≡ second
+  pub nowhere : (least : ℕ) → spots.agents ≤ second → second_of least second (squares_from spots first second) ≡ second
   unfolding second_of
-  nowhere least h = ap (second_of least second) (none_left h)
+  nowhere least h = rw (none_left h)
 
--- one square adds at most 1 to those below the limit
-pub below_more : (limit : ℕ) (g g' : Glance) (d : ℕ) → g' ≡ with_square limit g d → g'.below ≤ g.below + 1
-unfolding with_square
-below_more limit g g' d is = subst (λ (q : Glance). q.below ≤ g.below + 1) (sym is) (go (ltb d limit))
-  where
-    go : (b : Bool) → cond b (g.below + 1) g.below ≤ g.below + 1
-    go true = omega arith
-    go false = omega arith
+pub ruleset glance_steps = (glance_more, glance_end)
+
+pub ruleset second_steps = (here, later, nowhere)
 
 -- ---- the pairs one after another
 
@@ -141,19 +135,17 @@ row-glanced limit r first second (d ∷ ds) =
     ∙ ap (λ (b : Glance). leaves (with_pair limit r d first second) first (glanced limit b ds) (second_of (glanced limit b ds).least (suc second) ds)) (same-bound limit r first second d)
     ∙ in-front limit r first second d (glanced limit q ds) (second_of (glanced limit q ds).least (suc second) ds) (least-falls limit q ds)
 
-module _ (limit : ℕ) (r : Running) (first second : ℕ) (ds : List ℕ) (g : Glance) (is : g ≡ glanced limit (bound r) ds) where
-  by-glance : leaves r first g (second_of g.least second ds) ≡ with_row limit r first second ds
-  by-glance = ap (λ (q : Glance). leaves r first q (second_of q.least second ds)) is ∙ sym (row-glanced limit r first second ds)
+module _ (limit : ℕ) (r : Running) (first second : ℕ) (ds : List ℕ) where
+  abbrev here_glanced : Glance
+  here_glanced = glanced limit (bound r) ds
 
-  pub row-nearer : (k : ℕ) → k ≡ second_of g.least second ds → g.least < r.squared
-      → record { squared = g.least; first = first; second = k; below = g.below } ≡ with_row limit r first second ds
-  row-nearer k at h = (λ i. record { squared = g.least; first = first; second = at i; below = g.below }) ∙ sym there ∙ by-glance
-    where
-      there : leaves r first g (second_of g.least second ds) ≡ record { squared = g.least; first = first; second = second_of g.least second ds; below = g.below }
-      there = rw (lt-ltb g.least r.squared h)
+  pub row_nearer : here_glanced.least < r.squared
+      → with_row limit r first second ds
+      ≡ record { squared = here_glanced.least; first = first; second = second_of here_glanced.least second ds; below = here_glanced.below }
+  row_nearer h = rw (row-glanced limit r first second ds, lt-ltb here_glanced.least r.squared h)
 
-  pub row_same : r.squared ≤ g.least → record { squared = r.squared; first = r.first; second = r.second; below = g.below } ≡ with_row limit r first second ds
-  row_same h = sym there ∙ by-glance
-    where
-      there : leaves r first g (second_of g.least second ds) ≡ record { squared = r.squared; first = r.first; second = r.second; below = g.below }
-      there = rw (le-ltb g.least r.squared h)
+  pub row_same : r.squared ≤ here_glanced.least
+      → with_row limit r first second ds ≡ record { squared = r.squared; first = r.first; second = r.second; below = here_glanced.below }
+  row_same h = rw (row-glanced limit r first second ds, le-ltb here_glanced.least r.squared h)
+
+pub ruleset row_left = (row_nearer, row_same)

@@ -49,7 +49,7 @@ scaled (suc x) t h l =
     split x l = omega arith
 
 -- what the code calls a half
-pub half_is : (k : ℕ) → k < 34 → 1 * 2 ^ k % 2 ^ 64 ≡ 2 ^ k
+half_is : (k : ℕ) → k < 34 → 1 * 2 ^ k % 2 ^ 64 ≡ 2 ^ k
 half_is k h = shl_exact {a = 1} 1 k 64 (omega arith) (omega arith) ∙ one-mul (2 ^ k)
 
 pub half-most : (k : ℕ) → k < 34 → (1 ≤ 1 * 2 ^ k % 2 ^ 64) × (1 * 2 ^ k % 2 ^ 64 ≤ 2 ^ 33)
@@ -75,3 +75,5 @@ module _ (p : ℕ) (least : 116 ≤ p / 2 ^ 23) (most : p / 2 ^ 23 ≤ 141) wher
 
   pub fits-32 : (n : ℕ) → n < 2 ^ 35 → n / 2 ^ (150 - p / 2 ^ 23) < 2 ^ 32
   fits-32 n h = shr_lt {n = n} 32 (150 - p / 2 ^ 23) (lt_of_lt_of_le h (pow_mono {i = 35} {j = 32 + (150 - p / 2 ^ 23)} (omega arith)))
+
+pub ruleset size_steps = (small, half-most, rounded, fits-32)

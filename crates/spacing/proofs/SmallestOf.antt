@@ -7,35 +7,34 @@ use native.Mathlib.Omega.{arith}
 use lib.Dec.{ltb}
 use borrow.Author.Tests.{ltb-true, ltb-false, lt-ltb, le-ltb}
 use Rattle.spacing.specs.declared.Sighting.{Sighting}
-use Rattle.spacing.specs.declared.Smallest.{Smallest}
-use Rattle.spacing.specs.declared.Smallest.TheVariants.{Nowhere, Seen}
 use Rattle.spacing.specs.Report.{lesser, smallest_of, below_of}
+use Rattle.std.specs.Prelude.{Option, Some, None}
 use Rattle.spacing.specs.Claims.{Every, FirstLeast, SmallestIs}
 
 -- ---- the lesser of two
 
-lesser-first : (s t : Sighting) → s.squared ≤ t.squared → lesser (Seen s) (Seen t) ≡ Seen s
+lesser-first : (s t : Sighting) → s.squared ≤ t.squared → lesser (Some s) (Some t) ≡ Some s
 unfolding lesser
 lesser-first s t h = rw (le-ltb t.squared s.squared h)
 
-lesser-second : (s t : Sighting) → t.squared < s.squared → lesser (Seen s) (Seen t) ≡ Seen t
+lesser-second : (s t : Sighting) → t.squared < s.squared → lesser (Some s) (Some t) ≡ Some t
 unfolding lesser
 lesser-second s t h = rw (lt-ltb t.squared s.squared h)
 
-pub lesser-nowhere : (a : Smallest) → lesser a Nowhere ≡ a
+pub lesser-nowhere : (a : Option Sighting) → lesser a None ≡ a
 unfolding lesser
-lesser-nowhere Nowhere = refl
-lesser-nowhere (Seen s) = refl
+lesser-nowhere None = refl
+lesser-nowhere (Some s) = refl
 
-pub lesser-assoc : (a b c : Smallest) → lesser (lesser a b) c ≡ lesser a (lesser b c)
+pub lesser-assoc : (a b c : Option Sighting) → lesser (lesser a b) c ≡ lesser a (lesser b c)
 unfolding lesser
-lesser-assoc Nowhere b c = refl
-lesser-assoc (Seen s) Nowhere c = refl
-lesser-assoc (Seen s) (Seen t) Nowhere = lesser-nowhere (lesser (Seen s) (Seen t))
-lesser-assoc (Seen s) (Seen t) (Seen u) = go (ltb t.squared s.squared) (ltb u.squared t.squared) refl refl
+lesser-assoc None b c = refl
+lesser-assoc (Some s) None c = refl
+lesser-assoc (Some s) (Some t) None = lesser-nowhere (lesser (Some s) (Some t))
+lesser-assoc (Some s) (Some t) (Some u) = go (ltb t.squared s.squared) (ltb u.squared t.squared) refl refl
   where
     go : (ts ut : Bool) → ltb t.squared s.squared ≡ ts → ltb u.squared t.squared ≡ ut
-        → lesser (cond ts (Seen t) (Seen s)) (Seen u) ≡ lesser (Seen s) (cond ut (Seen u) (Seen t))
+        → lesser (cond ts (Some t) (Some s)) (Some u) ≡ lesser (Some s) (cond ut (Some u) (Some t))
     go true true p q = lesser-second t u (omega (arith, ltb-true)) ∙ sym (lesser-second s u (omega (arith, ltb-true)))
     go true false p q = lesser-first t u (omega (arith, ltb-false)) ∙ sym (lesser-second s t (omega (arith, ltb-true)))
     go false true p q = refl
@@ -46,7 +45,7 @@ lesser-assoc (Seen s) (Seen t) (Seen u) = go (ltb t.squared s.squared) (ltb u.sq
 pub smallest-append : (xs ys : List Sighting) → smallest_of (xs ++ ys) ≡ lesser (smallest_of xs) (smallest_of ys)
 unfolding smallest_of lesser
 smallest-append [] ys = refl
-smallest-append (x ∷ xs) ys = ap (lesser (Seen x)) (smallest-append xs ys) ∙ sym (lesser-assoc (Seen x) (smallest_of xs) (smallest_of ys))
+smallest-append (x ∷ xs) ys = ap (lesser (Some x)) (smallest-append xs ys) ∙ sym (lesser-assoc (Some x) (smallest_of xs) (smallest_of ys))
 
 pub below-append : (limit : ℕ) (xs ys : List Sighting) → below_of limit (xs ++ ys) ≡ below_of limit xs + below_of limit ys
 unfolding below_of
@@ -69,23 +68,23 @@ none-smaller-yet s t h (u ∷ us) none = (omega arith, none-smaller-yet s t h us
 
 -- those before a sighting that are larger, and those after it that are not smaller, leave it the smallest
 past-larger : (s : Sighting) (before : List Sighting) → Every (λ (t : Sighting). s.squared < t.squared) before
-    → lesser (smallest_of before) (Seen s) ≡ Seen s
+    → lesser (smallest_of before) (Some s) ≡ Some s
 unfolding smallest_of lesser
 past-larger s [] h = refl
 past-larger s (t ∷ ts) h =
-    lesser-assoc (Seen t) (smallest_of ts) (Seen s)
-    ∙ ap (lesser (Seen t)) (past-larger s ts h.1)
+    lesser-assoc (Some t) (smallest_of ts) (Some s)
+    ∙ ap (lesser (Some t)) (past-larger s ts h.1)
     ∙ lesser-second t s h.0
 
-past-others : (s : Sighting) (later : List Sighting) → NoneSmaller s later → lesser (Seen s) (smallest_of later) ≡ Seen s
+past-others : (s : Sighting) (later : List Sighting) → NoneSmaller s later → lesser (Some s) (smallest_of later) ≡ Some s
 unfolding smallest_of lesser
 past-others s [] h = refl
 past-others s (t ∷ ts) h =
-    sym (lesser-assoc (Seen s) (Seen t) (smallest_of ts))
-    ∙ ap (λ (a : Smallest). lesser a (smallest_of ts)) (lesser-first s t h.0)
+    sym (lesser-assoc (Some s) (Some t) (smallest_of ts))
+    ∙ ap (λ (a : Option Sighting). lesser a (smallest_of ts)) (lesser-first s t h.0)
     ∙ past-others s ts h.1
 
-first-least-is : (ss : List Sighting) (s : Sighting) → FirstLeast ss s → smallest_of ss ≡ Seen s
+first-least-is : (ss : List Sighting) (s : Sighting) → FirstLeast ss s → smallest_of ss ≡ Some s
 unfolding smallest_of
 first-least-is ss s first =
     ap smallest_of first.there
@@ -123,16 +122,16 @@ some-least t (u ∷ us) =
         let none = none-smaller-yet t s (omega (arith, ltb-false)) ss least in
         (t, record { before = []; later = ss; there = refl; larger = tt; none-smaller = none }, (omega arith, none))
 
-none_seen : (ss : List Sighting) → smallest_of ss ≡ Nowhere → ss ≡ []
+none_seen : (ss : List Sighting) → smallest_of ss ≡ None → ss ≡ []
 none_seen [] e = refl
 none_seen (t ∷ ts) e =
     let (s, first, least) = some-least t ts in
     let seen = first-least-is (t ∷ ts) s first in
     cc
 
-is-first-least : (ss : List Sighting) (s : Sighting) → smallest_of ss ≡ Seen s → FirstLeast ss s
+is-first-least : (ss : List Sighting) (s : Sighting) → smallest_of ss ≡ Some s → FirstLeast ss s
 unfolding smallest_of
-is-first-least [] s e = let z : ◌≡◌ {A = ℕ} 0 1 = cc in absurd (omega arith)
+is-first-least [] s e = cc
 is-first-least (t ∷ ts) s e =
     let (s', first, least) = some-least t ts in
     let seen = first-least-is (t ∷ ts) s' first in

@@ -1,16 +1,16 @@
 -- Squares of distances by products: |p - q|^2 + 2 p.q = |p|^2 + |q|^2, axis by axis, and none of these numbers is large.
-use mathlib.Core.Path.{◌≡◌, sym, ap, ap₂, ◌∙◌, subst}
-use mathlib.Core.List.{List}
+use mathlib.Core.Path.{◌≡◌, sym, ap, ◌∙◌}
 use mathlib.Core.Bool.{Bool, true, false, not}
 use Prim.Native.Nat.{ℕ, ◌+◌, ◌-◌, ◌*◌, ◌^◌, ◌≤◌, ◌<◌}
 use native.Mathlib.Nat.{mul-add, add-mul, mul_comm}
 use native.Mathlib.Omega.{arith}
 use lib.Dec.{T, leb, leb→le, nleb→lt}
 use Rattle.vectors.proofs.root.Whole.{mul-lt-pow}
-use Rattle.spacing.specs.declared.pairs.Spot.{Spot}
+use Rattle.spacing.specs.declared.spots.FromCorner.{FromCorner}
+use Rattle.spacing.specs.declared.spots.Spot.{Spot}
 use Rattle.spacing.specs.parts.Millimetres.{reach}
 use Rattle.spacing.specs.Frame.{square}
-use Rattle.spacing.specs.parts.Pairs.{between, spot_at, Placed, AllPlaced, squared_between, squared_at}
+use Rattle.spacing.specs.parts.Spots.{between, dot, squared_between}
 
 -- a product of two distances from the corner
 pub product_small : (a b : ℕ) → a ≤ 2 * reach → b ≤ 2 * reach → a * b < 2 ^ 50
@@ -40,27 +40,27 @@ square-between a b = go (leb a b) (leb→le a b) (nleb→lt a b)
     go false least most = down a b (most tt)
 
 -- what the code makes of two agents' squares and of d, their dot product
-pub by-dots : (p q : Spot) (d : ℕ) → Placed p → Placed q → d ≡ p.x * q.x + p.y * q.y + p.z * q.z
+by-dots : (p q : Spot) (d : ℕ) → d ≡ dot p.position q.position
     → (d < 2 ^ 52) × (p.square + q.square < 2 ^ 53) × (2 * d ≤ p.square + q.square) × (p.square + q.square - 2 * d ≡ squared_between p q)
-by-dots p q d hp hq is =
-    let x = product_small p.x q.x hp.0 hq.0 in
-    let y = product_small p.y q.y hp.1 hq.1 in
-    let z = product_small p.z q.z hp.2 hq.2 in
-    let xp = product_small p.x p.x hp.0 hp.0 in
-    let yp = product_small p.y p.y hp.1 hp.1 in
-    let zp = product_small p.z p.z hp.2 hp.2 in
-    let xq = product_small q.x q.x hq.0 hq.0 in
-    let yq = product_small q.y q.y hq.1 hq.1 in
-    let zq = product_small q.z q.z hq.2 hq.2 in
+by-dots p q d is =
+    let (a, b) : FromCorner × FromCorner = (p.position, q.position) in
+    let x = product_small a.x b.x a.near.0 b.near.0 in
+    let y = product_small a.y b.y a.near.1 b.near.1 in
+    let z = product_small a.z b.z a.near.2 b.near.2 in
+    let xp = product_small a.x a.x a.near.0 a.near.0 in
+    let yp = product_small a.y a.y a.near.1 a.near.1 in
+    let zp = product_small a.z a.z a.near.2 a.near.2 in
+    let xq = product_small b.x b.x b.near.0 b.near.0 in
+    let yq = product_small b.y b.y b.near.1 b.near.1 in
+    let zq = product_small b.z b.z b.near.2 b.near.2 in
     let gaps : squared_between p q + 2 * d ≡ p.square + q.square =
-    omega (arith, is, hp.3, hq.3, square-between p.x q.x, square-between p.y q.y, square-between p.z q.z) in
-    (omega arith, omega (arith, hp.3, hq.3), omega arith, omega arith)
+    omega (arith, is, p.squared, q.squared, square-between a.x b.x, square-between a.y b.y, square-between a.z b.z) in
+    (omega arith, omega (arith, p.squared, q.squared), omega arith, omega arith)
 
--- ---- agents by the arrays
+pub dot-least : (p q : Spot) (d : ℕ) → d ≡ dot p.position q.position → 2 * d ≤ p.square + q.square
+dot-least p q d is = (by-dots p q d is).2
 
-module _ (xs ys zs squares : List ℕ) where
-  pub placed_at : (agents : ℕ) → AllPlaced agents xs ys zs squares → (k : ℕ) → k < agents → (p : Spot) → p ≡ spot_at xs ys zs squares k → Placed p
-  placed_at agents all k h p is = subst Placed (sym is) (all k h)
+pub dot-gap : (p q : Spot) (d : ℕ) → d ≡ dot p.position q.position → p.square + q.square - 2 * d ≡ squared_between p q
+dot-gap p q d is = (by-dots p q d is).3
 
-  pub squared-at : (i j : ℕ) (p q : Spot) → p ≡ spot_at xs ys zs squares i → q ≡ spot_at xs ys zs squares j → (d : ℕ) → d ≡ squared_between p q → d ≡ squared_at xs ys zs i j
-  squared-at i j p q at_i at_j d is = is ∙ ap₂ squared_between at_i at_j
+pub ruleset dot_steps = (dot-least, dot-gap)

@@ -10,13 +10,11 @@ use lib.ListN.{length, take, length-append, length-map}
 use lib.Seq.{take-nil, append_snoc}
 use lib.Ieee.{Float}
 use borrow.Author.Tests.{leb-true, leb-false, le-leb, eq-eqb, ne_eqb}
-use Rattle.spacing.specs.declared.Answer.{Answer}
-use Rattle.spacing.specs.declared.Answer.TheVariants.{Done}
 use Rattle.spacing.specs.declared.Sighting.{Sighting}
 use Rattle.spacing.specs.declared.Tally.{Tally}
 use Rattle.spacing.specs.Frame.{Position, positions, sighted, pairs}
 use Rattle.spacing.specs.Report.{sightings, smallest_of, below_of, report_of}
-use Rattle.spacing.specs.Answers.{most_agents, most_frames}
+use Rattle.spacing.specs.Answers.{most_agents, most_frames, Answer, done}
 use Rattle.spacing.specs.Tally.{fresh, begun, agents_of, fullest, report_with, tally_after, stepped_by}
 use Rattle.spacing.specs.Claims.{after, accepted, with_accepted, TallyReport, sound_ones, AcceptedAre}
 use Rattle.spacing.proofs.SmallestOf.{smallest-append, below-append}
@@ -177,7 +175,7 @@ accepted-from (f ∷ fs) tally = go (answered (agents_of tally) tally.report.fra
     go (Answered.taken h h' within) rest =
         let one : most_frames - tally.report.frames ≡ suc (most_frames - suc tally.report.frames) = omega arith in
         rw (eq-eqb (length f) (3 * agents_of tally) h, within, one)
-        (ap (λ (l : List (List Float)). f ∷ l) (rest (tally_after Done tally f)))
+        (ap (λ (l : List (List Float)). f ∷ l) (rest (tally_after done tally f)))
 
 pub accepted-are : AcceptedAre
 unfolding fresh

@@ -8,16 +8,16 @@ use native.Mathlib.Omega.{arith}
 use lib.Dec.{ltb}
 use lib.IntN.{ℤ, nat_abs}
 use lib.Ieee.{Float}
+use Rattle.std.specs.Prelude.{Option, Some, None}
 use borrow.Author.Tests.{lt-ltb, le-ltb, ltb-true, ltb-false}
-use Rattle.spacing.specs.declared.Answer.TheVariants.{Done}
+use Rattle.spacing.specs.declared.Refusal.TheVariants.{OutOfReach}
 use Rattle.spacing.specs.declared.Sighting.{Sighting}
-use Rattle.spacing.specs.declared.Smallest.{Smallest}
-use Rattle.spacing.specs.declared.Smallest.TheVariants.{Nowhere, Seen}
 use Rattle.spacing.specs.declared.pairs.Running.{Running}
 use Rattle.spacing.specs.Millimetres.{apart}
 use Rattle.spacing.specs.parts.Millimetres.{reach}
 use Rattle.spacing.specs.Frame.{Position, positions, square, squared, sighted, pairs, out_of_reach}
 use Rattle.spacing.specs.Report.{lesser, smallest_of, below_of}
+use Rattle.spacing.specs.Answers.{done}
 use Rattle.spacing.specs.Tally.{within_reach}
 use Rattle.spacing.specs.parts.Pairs.{with_pair, with_row, with_pairs, start_at}
 use Rattle.spacing.specs.parts.Tally.{bound_of, smallest_after}
@@ -36,15 +36,15 @@ abbrev pub AllWithin : List Position → Type 0
 AllWithin [] = Unit {0}
 AllWithin (p ∷ ps) = Within p × AllWithin ps
 
-pub all-within : (place : ℕ) (frame : List Float) → within_reach place frame ≡ Done → AllWithin (positions frame)
+pub all-within : (place : ℕ) (frame : List Float) → within_reach place frame ≡ done → AllWithin (positions frame)
 unfolding within_reach positions
 all-within place [] h = tt
 all-within place (x ∷ []) h = tt
 all-within place (x ∷ y ∷ []) h = tt
 all-within place (x ∷ y ∷ z ∷ rest) h =
-    let at_x = let_through (out_of_reach x) place (within_reach (suc place) (y ∷ z ∷ rest)) h in
-    let at_y = let_through (out_of_reach y) (suc place) (within_reach (suc (suc place)) (z ∷ rest)) at_x.1 in
-    let at-z = let_through (out_of_reach z) (suc (suc place)) (within_reach (suc (suc (suc place))) rest) at_y.1 in
+    let at_x = let_through (out_of_reach x) (OutOfReach place) (within_reach (suc place) (y ∷ z ∷ rest)) h in
+    let at_y = let_through (out_of_reach y) (OutOfReach (suc place)) (within_reach (suc (suc place)) (z ∷ rest)) at_x.1 in
+    let at-z = let_through (out_of_reach z) (OutOfReach (suc (suc place))) (within_reach (suc (suc (suc place))) rest) at_y.1 in
     ((within-size x at_x.0, within-size y at_y.0, within-size z at-z.0), all-within (suc (suc (suc place))) rest at-z.1)
 
 gap-small : (a b : ℤ) → nat_abs a ≤ reach → nat_abs b ≤ reach → square (apart a b) < 2 ^ 50
@@ -68,14 +68,14 @@ all_small p (q ∷ qs) hp h = (squared-small p q hp h.0, all_small p qs hp h.1)
 -- ---- the smallest
 
 -- r has gone through pairs of the frame whose smallest, with s before them, is m
-record Tracks (s : Smallest) (frame : ℕ) (r : Running) (m : Smallest) : Type 0 where
+record Tracks (s : Option Sighting) (frame : ℕ) (r : Running) (m : Option Sighting) : Type 0 where
   found : smallest_after s frame r ≡ m
   bound : r.squared ≡ bound_of m
   under : r.squared ≤ bound_of s
 
-module _ (s : Smallest) (frame limit : ℕ) where
-  one-pair : (r : Running) (m : Smallest) (d first second : ℕ) → d < 2 ^ 52 → Tracks s frame r m
-      → Tracks s frame (with_pair limit r d first second) (lesser m (Seen (record { squared = d; frame = frame; first = first; second = second })))
+module _ (s : Option Sighting) (frame limit : ℕ) where
+  one-pair : (r : Running) (m : Option Sighting) (d first second : ℕ) → d < 2 ^ 52 → Tracks s frame r m
+      → Tracks s frame (with_pair limit r d first second) (lesser m (Some (record { squared = d; frame = frame; first = first; second = second })))
   unfolding with_pair smallest_after bound_of lesser
   one-pair r m d first second small h = go (ltb d r.squared) refl
     where
@@ -85,40 +85,40 @@ module _ (s : Smallest) (frame limit : ℕ) where
       below : ℕ
       below = cond (ltb d limit) (r.below + 1) r.below
 
-      taken : (m : Smallest) → d < bound_of m → lesser m (Seen seen) ≡ Seen seen
-      taken Nowhere l = refl
-      taken (Seen t) l = rw (lt-ltb d t.squared l)
+      taken : (m : Option Sighting) → d < bound_of m → lesser m (Some seen) ≡ Some seen
+      taken None l = refl
+      taken (Some t) l = rw (lt-ltb d t.squared l)
 
-      kept : (m : Smallest) → bound_of m ≤ d → lesser m (Seen seen) ≡ m
-      kept Nowhere l = absurd (omega arith)
-      kept (Seen t) l = rw (le-ltb d t.squared l)
+      kept : (m : Option Sighting) → bound_of m ≤ d → lesser m (Some seen) ≡ m
+      kept None l = absurd (omega arith)
+      kept (Some t) l = rw (le-ltb d t.squared l)
 
-      go : (b : Bool) → ltb d r.squared ≡ b → Tracks s frame (with_pair limit r d first second) (lesser m (Seen seen))
+      go : (b : Bool) → ltb d r.squared ≡ b → Tracks s frame (with_pair limit r d first second) (lesser m (Some seen))
       go true e =
           let nearer : d < r.squared = ltb-true d r.squared e in
-          let least : lesser m (Seen seen) ≡ Seen seen = taken m (omega (arith, h.bound)) in
+          let least : lesser m (Some seen) ≡ Some seen = taken m (omega (arith, h.bound)) in
           let is : with_pair limit r d first second ≡ record { squared = d; first = first; second = second; below = below } = rw e in
-          subst (λ (q : Running). Tracks s frame q (lesser m (Seen seen))) (sym is)
+          subst (λ (q : Running). Tracks s frame q (lesser m (Some seen))) (sym is)
           (record { found = rw (lt-ltb d (bound_of s) (omega (arith, h.under))) (sym least); bound = ap bound_of (sym least); under = omega (arith, h.under) })
       go false e =
           let not-nearer : r.squared ≤ d = ltb-false d r.squared e in
-          let same : lesser m (Seen seen) ≡ m = kept m (omega (arith, h.bound)) in
+          let same : lesser m (Some seen) ≡ m = kept m (omega (arith, h.bound)) in
           let is : with_pair limit r d first second ≡ record { squared = r.squared; first = r.first; second = r.second; below = below } = rw e in
-          subst (λ (q : Running). Tracks s frame q (lesser m (Seen seen))) (sym is)
+          subst (λ (q : Running). Tracks s frame q (lesser m (Some seen))) (sym is)
           (record { found = h.found ∙ sym same; bound = h.bound ∙ ap bound_of (sym same); under = h.under })
 
-  one-row : (r : Running) (m : Smallest) (first second : ℕ) (ds : List ℕ) → AllSmall ds → Tracks s frame r m
+  one-row : (r : Running) (m : Option Sighting) (first second : ℕ) (ds : List ℕ) → AllSmall ds → Tracks s frame r m
       → Tracks s frame (with_row limit r first second ds) (lesser m (smallest_of (sighted frame first second ds)))
   unfolding with_row sighted smallest_of
-  one-row r m first second [] small h = subst (λ (n : Smallest). Tracks s frame r n) (sym (lesser-nowhere m)) h
+  one-row r m first second [] small h = subst (λ (n : Option Sighting). Tracks s frame r n) (sym (lesser-nowhere m)) h
   one-row r m first second (d ∷ ds) small h =
       subst (Tracks s frame (with_row limit (with_pair limit r d first second) first (suc second) ds)) (lesser-assoc m _ _)
       (one-row (with_pair limit r d first second) _ first (suc second) ds small.1 (one-pair r m d first second small.0 h))
 
-  all-rows : (r : Running) (m : Smallest) (first : ℕ) (ps : List Position) → AllWithin ps → Tracks s frame r m
+  all-rows : (r : Running) (m : Option Sighting) (first : ℕ) (ps : List Position) → AllWithin ps → Tracks s frame r m
       → Tracks s frame (with_pairs limit r first ps) (lesser m (smallest_of (pairs frame first ps)))
   unfolding with_pairs pairs smallest_of
-  all-rows r m first [] within h = subst (λ (n : Smallest). Tracks s frame r n) (sym (lesser-nowhere m)) h
+  all-rows r m first [] within h = subst (λ (n : Option Sighting). Tracks s frame r n) (sym (lesser-nowhere m)) h
   all-rows r m first (p ∷ ps) within h =
       let ds = map (squared p) ps in
       let row = sighted frame first (suc first) ds in
@@ -161,6 +161,6 @@ pairs_below frame limit r first (p ∷ ps) =
     ∙ add_assoc r.below (below_of limit (sighted frame first (suc first) ds)) (below_of limit (pairs frame (suc first) ps))
     ∙ ap (λ (n : ℕ). r.below + n) (sym (below-append limit (sighted frame first (suc first) ds) (pairs frame (suc first) ps)))
 
-pub smallest-tracked : (s : Smallest) (frame limit : ℕ) (ps : List Position) → AllWithin ps → smallest_after s frame (with_pairs limit (start_at (bound_of s)) 0 ps) ≡ lesser s (smallest_of (pairs frame 0 ps))
+pub smallest-tracked : (s : Option Sighting) (frame limit : ℕ) (ps : List Position) → AllWithin ps → smallest_after s frame (with_pairs limit (start_at (bound_of s)) 0 ps) ≡ lesser s (smallest_of (pairs frame 0 ps))
 unfolding smallest_after
 smallest-tracked s frame limit ps within = (all-rows s frame limit (start_at (bound_of s)) s 0 ps within (record { found = rw (le-ltb (bound_of s) (bound_of s) (omega arith)); bound = refl; under = omega arith })).found

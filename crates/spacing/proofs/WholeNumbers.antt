@@ -8,7 +8,7 @@ use lib.IntN.{ℤ, pos, negsuc, neg_ℤ, nat_abs, ◌*ℤ◌, ◌-ℤ◌, neg_�
 use lib.Dec.{T, ltb, ltb→lt, nltb→le}
 use Rattle.spacing.specs.Millimetres.{signed, apart}
 use Rattle.spacing.specs.parts.Millimetres.{reach, from_corner}
-use Rattle.spacing.specs.parts.Pairs.{between}
+use Rattle.spacing.specs.parts.Spots.{between}
 
 pub nat_abs-neg : (k : ℤ) → nat_abs (neg_ℤ k) ≡ nat_abs k
 nat_abs-neg (pos zero) = refl

@@ -1,8 +1,7 @@
 -- What a tally answers: document 02's numbers and places.
-use Rattle.std.specs.Prelude.{ℕ}
+use Rattle.std.specs.Prelude.{ℕ, Result, Ok, Err}
+use Rattle.spacing.specs.declared.Refusal.{Refusal}
 use Rattle.spacing.specs.declared.Refusal.TheVariants.{TooManyAgents, WrongLength, TooManyFrames, OutOfReach}
-use Rattle.spacing.specs.declared.Answer.{Answer}
-use Rattle.spacing.specs.declared.Answer.TheVariants.{Done, Refused}
 
 -- at most so many agents, and so many frames
 abbrev pub most_agents : ℕ
@@ -11,16 +10,23 @@ most_agents = 64
 abbrev pub most_frames : ℕ
 most_frames = 1048576
 
+-- done, or refused
+abbrev pub Answer : Type 0
+Answer = Result (Unit {0}) Refusal
+
+abbrev pub done : Answer
+done = Ok tt
+
 unfoldable pub number : Answer → ℕ
-number Done = 0
-number (Refused TooManyAgents) = 9
-number (Refused (WrongLength numbers)) = 14
-number (Refused TooManyFrames) = 9
-number (Refused (OutOfReach place)) = 19
+number (Ok _) = 0
+number (Err TooManyAgents) = 9
+number (Err (WrongLength numbers)) = 14
+number (Err TooManyFrames) = 9
+number (Err (OutOfReach place)) = 19
 
 unfoldable pub place_of : Answer → ℕ
-place_of Done = 0
-place_of (Refused TooManyAgents) = most_agents
-place_of (Refused (WrongLength numbers)) = numbers
-place_of (Refused TooManyFrames) = most_frames
-place_of (Refused (OutOfReach place)) = place
+place_of (Ok _) = 0
+place_of (Err TooManyAgents) = most_agents
+place_of (Err (WrongLength numbers)) = numbers
+place_of (Err TooManyFrames) = most_frames
+place_of (Err (OutOfReach place)) = place

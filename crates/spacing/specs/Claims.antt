@@ -1,16 +1,13 @@
 -- What is proved of the definitions, each statement under its name. The proofs are in `proofs/`.
-use Rattle.std.specs.Prelude.{ℕ, ◌*◌, ◌%◌, ◌≤◌, ◌<◌, ◌≡◌, Bool, true, false, not, ◌&&◌, cond, List, [], ◌∷◌, ◌++◌, ◌↔◌, ℤ, pos, nat_abs, ◌*ℤ◌, eqb, length, get_or, take, Float}
+use Rattle.std.specs.Prelude.{ℕ, ◌*◌, ◌%◌, ◌≤◌, ◌<◌, ◌≡◌, Bool, true, false, not, ◌&&◌, cond, List, [], ◌∷◌, ◌++◌, ◌↔◌, ℤ, pos, nat_abs, ◌*ℤ◌, eqb, length, get_or, take, Some, None, Ok, Err, Float}
 use Rattle.std.specs.Float.{nan}
 use Rattle.std.specs.Float.Ieee.Exact.{HasValue}
-use Rattle.spacing.specs.declared.Answer.{Answer}
-use Rattle.spacing.specs.declared.Answer.TheVariants.{Done, Refused}
 use Rattle.spacing.specs.declared.Sighting.{Sighting}
-use Rattle.spacing.specs.declared.Smallest.TheVariants.{Nowhere, Seen}
 use Rattle.spacing.specs.declared.Tally.{Tally}
 use Rattle.spacing.specs.Millimetres.{signed, apart, millimetres}
 use Rattle.spacing.specs.Frame.{out_of_reach}
 use Rattle.spacing.specs.Report.{smallest_of, report_of}
-use Rattle.spacing.specs.Answers.{most_agents, most_frames, number, place_of}
+use Rattle.spacing.specs.Answers.{most_agents, most_frames, Answer, number, place_of}
 use Rattle.spacing.specs.Tally.{begun, agents_of, stepped_by}
 
 -- ---- whole millimetres
@@ -35,8 +32,8 @@ after tally [] = tally
 after tally (f ∷ fs) = after (stepped_by tally f).tally fs
 
 abbrev pub with_accepted : Answer → List Float → List (List Float) → List (List Float)
-with_accepted Done f fs = f ∷ fs
-with_accepted (Refused refusal) f fs = fs
+with_accepted (Ok _) f fs = f ∷ fs
+with_accepted (Err refusal) f fs = fs
 
 -- those of them that it answers with 0, in their order
 unfoldable pub accepted : Tally → List (List Float) → List (List Float)
@@ -84,7 +81,7 @@ pub record FirstLeast (ss : List Sighting) (s : Sighting) : Type 0 where
 abbrev pub SmallestIs : Type 0
 SmallestIs =
     (ss : List Sighting)
-    → ((s : Sighting) → smallest_of ss ≡ Seen s ↔ FirstLeast ss s) × (smallest_of ss ≡ Nowhere ↔ ss ≡ [])
+    → ((s : Sighting) → smallest_of ss ≡ Some s ↔ FirstLeast ss s) × (smallest_of ss ≡ None ↔ ss ≡ [])
 
 -- ---- refusals
 

@@ -1,8 +1,6 @@
 -- The report of a list of frames, over the whole list.
-use Rattle.std.specs.Prelude.{ℕ, suc, ◌*◌, cond, List, [], ◌∷◌, ◌++◌, ltb, length, Float}
+use Rattle.std.specs.Prelude.{ℕ, suc, ◌*◌, cond, List, [], ◌∷◌, ◌++◌, ltb, length, Option, Some, None, Float}
 use Rattle.spacing.specs.declared.Sighting.{Sighting}
-use Rattle.spacing.specs.declared.Smallest.{Smallest}
-use Rattle.spacing.specs.declared.Smallest.TheVariants.{Nowhere, Seen}
 use Rattle.spacing.specs.declared.Report.{Report}
 use Rattle.spacing.specs.Frame.{positions, pairs}
 
@@ -12,14 +10,14 @@ sightings frame [] = []
 sightings frame (f ∷ fs) = pairs frame 0 (positions f) ++ sightings (suc frame) fs
 
 -- the smaller of two, and of two that are equal the first
-unfoldable pub lesser : Smallest → Smallest → Smallest
-lesser Nowhere b = b
-lesser (Seen s) Nowhere = Seen s
-lesser (Seen s) (Seen t) = cond (ltb t.squared s.squared) (Seen t) (Seen s)
+unfoldable pub lesser : Option Sighting → Option Sighting → Option Sighting
+lesser None b = b
+lesser (Some s) None = Some s
+lesser (Some s) (Some t) = cond (ltb t.squared s.squared) (Some t) (Some s)
 
-unfoldable pub smallest_of : List Sighting → Smallest
-smallest_of [] = Nowhere
-smallest_of (s ∷ ss) = lesser (Seen s) (smallest_of ss)
+unfoldable pub smallest_of : List Sighting → Option Sighting
+smallest_of [] = None
+smallest_of (s ∷ ss) = lesser (Some s) (smallest_of ss)
 
 -- how many have a square below that of the limit
 unfoldable pub below_of : ℕ → List Sighting → ℕ

@@ -1,39 +1,36 @@
 -- The running tally: begun, and updated frame by frame.
-use Rattle.std.specs.Prelude.{ℕ, suc, ◌+◌, ◌-◌, ◌*◌, ◌^◌, min, not, cond, List, [], ◌∷◌, leb, eqb, length, Float}
+use Rattle.std.specs.Prelude.{ℕ, suc, ◌+◌, ◌-◌, ◌*◌, ◌^◌, min, not, cond, List, [], ◌∷◌, leb, eqb, length, None, Ok, Err, Float}
 use Rattle.spacing.specs.declared.Refusal.TheVariants.{TooManyAgents, WrongLength, TooManyFrames, OutOfReach}
-use Rattle.spacing.specs.declared.Answer.{Answer}
-use Rattle.spacing.specs.declared.Answer.TheVariants.{Done, Refused}
-use Rattle.spacing.specs.declared.Smallest.TheVariants.{Nowhere}
 use Rattle.spacing.specs.declared.Report.{Report}
 use Rattle.spacing.specs.declared.Tally.{Tally}
 use Rattle.spacing.specs.declared.Tallied.{Tallied}
 use Rattle.spacing.specs.Frame.{out_of_reach, positions, pairs}
 use Rattle.spacing.specs.Report.{lesser, smallest_of, below_of}
-use Rattle.spacing.specs.Answers.{most_agents, most_frames}
+use Rattle.spacing.specs.Answers.{most_agents, most_frames, Answer, done}
 
 -- ---- begun
 
 unfoldable pub fresh : ℕ → ℕ → Tally
 fresh agents limit =
-    record { agents = agents; limit = limit; report = record { frames = 0; smallest = Nowhere; below = 0 } }
+    record { agents = agents; limit = limit; report = record { frames = 0; smallest = None; below = 0 } }
 
 -- over 64 agents are refused, and the tally is one for none
 unfoldable pub begun : ℕ → ℕ → Tallied
 begun agents limit =
-    cond (leb agents most_agents) (record { answer = Done; tally = fresh agents limit })
-    (record { answer = Refused TooManyAgents; tally = fresh 0 limit })
+    cond (leb agents most_agents) (record { answer = done; tally = fresh agents limit })
+    (record { answer = Err TooManyAgents; tally = fresh 0 limit })
 
 -- ---- a frame's answer: 14, then 9, then 19
 
 -- refused at the lowest component out of reach; the head of the list is at `place`
 unfoldable pub within_reach : ℕ → List Float → Answer
-within_reach place [] = Done
-within_reach place (x ∷ xs) = cond (out_of_reach x) (Refused (OutOfReach place)) (within_reach (suc place) xs)
+within_reach place [] = done
+within_reach place (x ∷ xs) = cond (out_of_reach x) (Err (OutOfReach place)) (within_reach (suc place) xs)
 
 unfoldable pub frame_answer : ℕ → ℕ → List Float → Answer
 frame_answer agents frames frame =
-    cond (not (eqb (length frame) (3 * agents))) (Refused (WrongLength (length frame)))
-    (cond (leb most_frames frames) (Refused TooManyFrames) (within_reach 0 frame))
+    cond (not (eqb (length frame) (3 * agents))) (Err (WrongLength (length frame)))
+    (cond (leb most_frames frames) (Err TooManyFrames) (within_reach 0 frame))
 
 -- ---- a frame taken
 
@@ -57,9 +54,9 @@ report_with limit report frame =
 
 -- the tally after an answer: with the frame where it is done, as it was where it is refused
 unfoldable pub tally_after : Answer → Tally → List Float → Tally
-tally_after Done tally frame =
+tally_after (Ok _) tally frame =
     record { agents = tally.agents; limit = tally.limit; report = report_with tally.limit tally.report frame }
-tally_after (Refused refusal) tally frame = tally
+tally_after (Err refusal) tally frame = tally
 
 unfoldable pub stepped_by : Tally → List Float → Tallied
 stepped_by tally frame =

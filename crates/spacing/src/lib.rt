@@ -5,8 +5,10 @@
 #![tactic(auto)]
 
 pub mod answers;
+pub mod frame;
 pub mod millimetres;
 pub mod pairs;
+pub mod spots;
 pub mod tallies;
 pub mod whole_root;
 
@@ -16,7 +18,7 @@ pub const MOST_AGENTS: usize = 64;
 pub const MOST_FRAMES: usize = 1_048_576;
 
 // Why a tally is not begun as asked, or a frame is not taken.
-#[derive(Clone, Copy)]
+#[derive(Debug, Clone, Copy, PartialEq, Eq)]
 pub enum Refusal {
     TooManyAgents,
     WrongLength { numbers: usize },
@@ -24,14 +26,8 @@ pub enum Refusal {
     OutOfReach { place: usize },
 }
 
-#[derive(Clone, Copy)]
-pub enum Answer {
-    Done,
-    Refused(Refusal),
-}
-
 // Two agents in a frame, and the square of their distance in millimetres.
-#[derive(Clone, Copy)]
+#[derive(Debug, Clone, Copy, PartialEq, Eq)]
 pub struct Sighting {
     pub squared: u64,
     pub frame: usize,
@@ -39,33 +35,26 @@ pub struct Sighting {
     pub second: usize,
 }
 
-// The smallest of some sightings, if there are any.
-#[derive(Clone, Copy)]
-pub enum Smallest {
-    Nowhere,
-    Seen(Sighting),
-}
-
 // How many frames, where two agents were nearest, and how many pairs in frames lay below the limit.
-#[derive(Clone, Copy)]
+#[derive(Debug, Clone, Copy, PartialEq, Eq)]
 pub struct Report {
     pub frames: usize,
-    pub smallest: Smallest,
+    pub smallest: Option<Sighting>,
     pub below: u64,
 }
 
 // The running tally: for how many agents, the limit in millimetres, and the report so far. A count of agents over 64
 // is read as 64.
-#[derive(Clone, Copy)]
+#[derive(Debug, Clone, Copy, PartialEq, Eq)]
 pub struct Tally {
     agents: usize,
     limit: u32,
     report: Report,
 }
 
-// An answer, and the tally after it.
-#[derive(Clone, Copy)]
+// An answer, and the tally after it, which `begun` and `stepped_by` give where it is refused too.
+#[derive(Debug, Clone, Copy, PartialEq, Eq)]
 pub struct Tallied {
-    pub answer: Answer,
+    pub answer: Result<(), Refusal>,
     pub tally: Tally,
 }
