@@ -2,23 +2,16 @@
 // and the fields after it, each a count or a word. The definitions are in `specs/Lines.antt`.
 #![tactic(auto)]
 
-ghost use Rattle.std.specs.Prelude.{◌≡◌, ◌≤◌, ◌<◌, length};
-ghost use Rattle.lines.specs.Lines.{digit_of, spelled_in, word_of, count_of, length_until, is_comment, packed_after, key_of, after_key, as_malformed, with_count, with_word, with_field, no_fields, fields_of};
+ghost use Rattle.std.specs.Prelude.{◌≡◌, ◌≤◌, length};
+ghost use Rattle.lines.specs.Lines.{digit_of, spelled_in, word_of, count_of, length_until, is_comment, key_of, after_key, with_count, with_word, with_field, no_fields, fields_of};
 
-#[derive(Clone, Copy)]
-pub enum Number {
-    Is(u32),
-    Malformed,
-}
+use arrayvec::ArrayVec;
 
-// The fields of a line. A malformed one keeps the fields that could be read.
-#[derive(Clone, Copy)]
+// The fields of a line: at most two counts, before all words, of which there are at most eight.
+#[derive(Drop)]
 pub struct Fields {
-    pub counts: [usize; 2],
-    pub counted: usize,
-    pub words: [u32; 8],
-    pub worded: usize,
-    pub malformed: bool,
+    pub counts: ArrayVec<usize, 2>,
+    pub words: ArrayVec<u32, 8>,
 }
 
 // How many bytes stand before the first `byte`.
@@ -26,206 +19,146 @@ pub fn length_until(text: &[u8], byte: u8) -> usize
     ensures value { result ≡ length_until byte text.now }
     ensures within { result ≤ length text.now }
 {
-    let mut n = 0;
-    while n < text.len() {
-        if text[n] == byte {
-            return n;
-        }
-        n += 1;
-    }
-    n
+    text.iter()
+        .position(|&other| other == byte)
+        .unwrap_or(text.len())
 }
 
 // Whether a line is a comment: it is empty, or starts with `#`.
+#[tactic(auto, unfolding(crate::specs::Lines::is_comment))]
 pub fn is_comment(line: &[u8]) -> bool
     ensures { result ≡ is_comment line.now }
 {
-    if line.len() == 0 {
-        return true;
-    }
-    line[0] == b'#'
+    matches!(line, [] | [b'#', ..])
 }
 
-// The number whose bytes are a 1 and then `bytes`.
-fn packed(bytes: &[u8]) -> u64
-    requires { length bytes.now ≤ 7 }
-    ensures { result ≡ packed_after 1 bytes.now }
+// The key of a line: what stands before the first space.
+#[tactic(auto, unfolding(crate::specs::Lines::key_of))]
+pub fn key(line: &[u8]) -> &[u8]
+    ensures { result.now ≡ key_of line.now }
 {
-    let mut value: u64 = 1;
-    let mut i = 0;
-    while i < bytes.len() {
-        value = value * 256 + wide(bytes[i]);
-        i += 1;
-    }
-    value
-}
-
-fn wide(byte: u8) -> u64
-    ensures { (result ≡ byte) × (result < 256) }
-{
-    byte as u64
-}
-
-// The key of a line, what stands before the first space, as a number that a program can match on: its bytes behind
-// a 1, so that no two keys have one number, and 0 for a key of more than seven.
-pub fn key(line: &[u8]) -> u64
-    ensures { result ≡ key_of line.now }
-{
-    let end = length_until(line, b' ');
-    if 7 < end {
-        return 0;
-    }
-    packed(&line[0..end])
+    &line[..length_until(line, b' ')]
 }
 
 // What stands after the key and its space.
+#[tactic(auto, unfolding(crate::specs::Lines::after_key))]
 pub fn after_key(line: &[u8]) -> &[u8]
     ensures { result.now ≡ after_key line.now }
 {
-    let end = length_until(line, b' ');
-    if end < line.len() {
-        let start = end + 1;
-        &line[start..]
-    } else {
-        &line[end..]
+    match &line[length_until(line, b' ')..] {
+        [_, rest @ ..] => rest,
+        [] => &[],
     }
 }
 
-// The value of a lower-case hexadecimal digit; 16 where the byte is none.
-fn digit(byte: u8) -> u32
+// The value of a hexadecimal digit, lower-case: `to_digit` takes upper-case ones too.
+#[tactic(auto, unfolding(crate::specs::Lines::digit_of))]
+fn digit(byte: u8) -> Option<u32>
     ensures { result ≡ digit_of byte }
 {
-    if byte < b'0' {
-        16
-    } else if byte <= b'9' {
-        (byte - b'0') as u32
-    } else if byte < b'a' {
-        16
-    } else if byte <= b'f' {
-        (byte - b'a') as u32 + 10
-    } else {
-        16
+    match byte {
+        b'0'..=b'9' => Some(u32::from(byte - b'0')),
+        b'a'..=b'f' => Some(u32::from(byte - b'a') + 10),
+        _ => None,
     }
 }
 
 // The number that digits spell in a base.
-fn spelled(digits: &[u8], base: u32) -> Number
+#[tactic(auto, using(crate::proofs::Digits::digit_by_digit))]
+fn spelled(digits: &[u8], base: u32) -> Option<u32>
     requires { (base ≤ 16) × (length digits.now ≤ 8) }
     ensures { result ≡ spelled_in base 0 digits.now }
 {
-    let mut value: u32 = 0;
-    let mut i = 0;
-    while i < digits.len() {
-        let next = digit(digits[i]);
+    let mut value = 0;
+    for &byte in digits {
+        let next = digit(byte)?;
         if base <= next {
-            return Number::Malformed;
+            return None;
         }
         value = value * base + next;
-        i += 1;
     }
-    Number::Is(value)
+    Some(value)
 }
 
 // A word is eight hexadecimal digits, lower-case.
-pub fn word(field: &[u8]) -> Number
+#[tactic(auto, unfolding(crate::specs::Lines::word_of))]
+pub fn word(field: &[u8]) -> Option<u32>
     ensures { result ≡ word_of field.now }
 {
     if field.len() != 8 {
-        return Number::Malformed;
+        return None;
     }
     spelled(field, 16)
 }
 
 // A count is one to four decimal digits.
-pub fn count(field: &[u8]) -> Number
+#[tactic(auto, unfolding(crate::specs::Lines::count_of))]
+pub fn count(field: &[u8]) -> Option<u32>
     ensures { result ≡ count_of field.now }
 {
-    if field.len() == 0 {
-        return Number::Malformed;
-    }
-    if 4 < field.len() {
-        return Number::Malformed;
+    if !matches!(field.len(), 1..=4) {
+        return None;
     }
     spelled(field, 10)
 }
 
-fn as_malformed(fields: Fields) -> Fields
-    ensures { result ≡ as_malformed fields }
-{
-    let mut fields = fields;
-    fields.malformed = true;
-    fields
-}
-
-// At most two counts, before all words.
-fn with_count(fields: Fields, count: Number) -> Fields
-    ensures { result ≡ with_count fields count }
-{
-    let mut fields = fields;
-    let at = fields.counted;
-    let Number::Is(value) = count else {
-        return as_malformed(fields);
-    };
-    if 0 < fields.worded {
-        return as_malformed(fields);
+impl Fields {
+    #[tactic(auto, unfolding(crate::specs::Lines::no_fields))]
+    fn none() -> Fields
+        ensures { result ≡ no_fields }
+    {
+        Fields {
+            counts: ArrayVec::new(),
+            words: ArrayVec::new(),
+        }
     }
-    if 2 <= at {
-        return as_malformed(fields);
-    }
-    fields.counts[at] = value as usize;
-    fields.counted = at + 1;
-    fields
-}
 
-// At most eight words.
-fn with_word(fields: Fields, word: Number) -> Fields
-    ensures { result ≡ with_word fields word }
-{
-    let mut fields = fields;
-    let at = fields.worded;
-    let Number::Is(value) = word else {
-        return as_malformed(fields);
-    };
-    if 8 <= at {
-        return as_malformed(fields);
+    // `usize` is not `From<u32>`, so a word that counts is cast.
+    // At most two counts, before all words.
+    #[tactic(auto, unfolding(crate::specs::Lines::with_count))]
+    fn with_count(mut self, count: u32) -> Option<Fields>
+        ensures { result ≡ with_count self count }
+    {
+        if !self.words.is_empty() {
+            return None;
+        }
+        self.counts.try_push(count as usize).ok()?;
+        Some(self)
     }
-    fields.words[at] = value;
-    fields.worded = at + 1;
-    fields
-}
 
-// The fields with one more, whose length says what it is.
-fn with_field(fields: Fields, field: &[u8]) -> Fields
-    ensures { result ≡ with_field fields field.now }
-{
-    if field.len() == 8 {
-        return with_word(fields, word(field));
+    // At most eight words.
+    #[tactic(auto, unfolding(crate::specs::Lines::with_word))]
+    fn with_word(mut self, word: u32) -> Option<Fields>
+        ensures { result ≡ with_word self word }
+    {
+        self.words.try_push(word).ok()?;
+        Some(self)
     }
-    with_count(fields, count(field))
-}
 
-fn no_fields() -> Fields
-    ensures { result ≡ no_fields }
-{
-    Fields {
-        counts: [0; 2],
-        counted: 0,
-        words: [0; 8],
-        worded: 0,
-        malformed: false,
+    // With one more, whose length says what it is.
+    #[tactic(auto, unfolding(crate::specs::Lines::with_field))]
+    fn with_field(self, field: &[u8]) -> Option<Fields>
+        ensures { result ≡ with_field self field.now }
+    {
+        if field.len() == 8 {
+            self.with_word(word(field)?)
+        } else {
+            self.with_count(count(field)?)
+        }
     }
 }
 
-// The fields of what stands after a key, a space between two.
-pub fn read_fields(text: &[u8]) -> Fields
+// The fields of what stands after a key, a space between two; nothing where one of them can't be read.
+#[tactic(auto, using(crate::proofs::Parts::one_by_one), unfolding(crate::specs::Lines::fields_of))]
+pub fn read_fields(text: &[u8]) -> Option<Fields>
     ensures { result ≡ fields_of text.now }
 {
-    let mut fields = no_fields();
-    let mut at = 0;
-    while at < text.len() {
-        let end = at + length_until(&text[at..], b' ');
-        fields = with_field(fields, &text[at..end]);
-        at = end + 1;
+    let mut fields = Fields::none();
+    let mut rest = text;
+    // no `split`: that has a part more behind a space at the end
+    while !rest.is_empty() {
+        fields = fields.with_field(key(rest))?;
+        rest = after_key(rest);
     }
-    fields
+    Some(fields)
 }

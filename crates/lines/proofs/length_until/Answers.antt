@@ -1,41 +1,25 @@
--- `lines::length_until` meets its contract. The invariant: the length is what was passed and the length of what is left. The measure is what is left of the text.
+-- `lines::length_until` meets its contract: the place that `position` finds, or the length, is what the definition counts.
 -- Assumes nothing.
-use Prim.Native.Nat.{ℕ, suc, ◌+◌, ◌<◌}
-use mathlib.Core.Path.{◌≡◌}
-use mathlib.Core.List.{List}
-use native.Mathlib.Numerals.{add-one}
-use native.Mathlib.Omega.{arith}
-use lib.ListN.{length, drop, get_or}
-use lib.Seq.{drop-cons, drop-length}
-use borrow.Author.Tests.{eq-eqb, ne_eqb}
+use Rattle.std.proofs.Common.{ℕ, ◌+◌, ◌≡◌, ◌≢◌, refl, sym, ◌∙◌, List, [], ◌∷◌, rules, tests, ne_eqb, eq-eqb, add-one}
+use Rattle.std.proofs.lemmas.Iterator.{IsFirst-from_position, YieldsList-from_slice, index_from_first}
 use Rattle.lines.specs.Lines.{length_until}
 use Rattle.lines.proofs.length_until.Goals as goal
 
--- what is left, by its first byte
-stops : (b : ℕ) (s : List ℕ) (n : ℕ) → n < length s → get_or s n 0 ≡ b → length_until b (drop n s) ≡ 0
+hit : (b a : ℕ) (s : List ℕ) → a ≡ b → length_until b (a ∷ s) ≡ 0
 unfolding length_until
-stops b s n h found = rw (drop-cons s n 0) (simp (eq-eqb _ _ found))
+hit b a s h = simp (eq-eqb _ _ h)
 
-goes :
-    (b : ℕ) (s : List ℕ) (n : ℕ) → n < length s → (get_or s n 0 ≡ b → ⊥) →
-    length_until b (drop n s) ≡ suc (length_until b (drop (n + 1) s))
+miss : (b a : ℕ) (s : List ℕ) → a ≢ b → length_until b (a ∷ s) ≡ length_until b s + 1
 unfolding length_until
-goes b s n h other = rw (add-one, drop-cons s n 0) (simp (ne_eqb _ _ other))
+miss b a s h = rw add-one (simp (ne_eqb _ _ h))
 
-pub returns-then-text-n : goal.returns-then-text-n
-returns-then-text-n c =
-    let text : List ℕ = c.args.text.now in
-    let nothing = stops _ (text) c.loop-n.n c.loop-n-test.true c.if-text-n.true in
-    record { value = omega arith; within = omega arith }
-
-pub loop-n-preserved : goal.loop-n-preserved
-loop-n-preserved c =
-    let text : List ℕ = c.args.text.now in
-    let more = goes _ (text) c.loop-n.n c.loop-n-test.true c.if-text-n.false in
-    omega arith
-
-pub returns : goal.returns
+none : (b : ℕ) → length_until b [] ≡ 0
 unfolding length_until
-returns c =
-    let at-end : c.loop-n.n ≡ length c.args.text.now = omega arith in
-    record { value = omega (arith, simp (at-end, drop-length) at c.loop-n.invariant.1); within = omega arith }
+none b = refl
+
+pub returns-clause-value : goal.returns-clause-value
+returns-clause-value c =
+    let b = c.args.byte in
+    let text = c.args.text.now in
+    let first = IsFirst-from_position _ _ _ (λ a. a ≡ b) (λ a. a ≢ b) c.position.ensures.ran (YieldsList-from_slice text cc) (λ x q k. search (rules, tests)) (λ x q k. search (rules, tests)) in
+    c.unwrap_or.ensures ∙ sym (index_from_first (length_until b) (λ a. a ≡ b) (λ a. a ≢ b) (none b) (λ a s h. hit b a s h) (λ a s h. miss b a s h) text _ first)

@@ -1,11 +1,10 @@
-use Prim.Native.Nat.{◌+◌, ◌-◌, ◌≤◌}
-use mathlib.Core.Path.{◌≡◌}
-use lib.ListN.{length, drop}
+-- The fields so far, with those of what is left, are those of the whole.
+use Rattle.std.proofs.Common.{◌≡◌, length}
 use Rattle.lines.specs.Lines.{parts, with_fields, fields_of}
 use Rattle.lines.proofs.read_fields.Given as goal
 
-abbrev pub invariant-loop-at : goal.invariant-loop-at
-invariant-loop-at l = (l.at ≤ length l.text + 1) × (fields_of l.text ≡ with_fields l.fields (parts (drop l.at l.text)))
+abbrev pub invariant-loop-rest : goal.invariant-loop-rest
+invariant-loop-rest l = fields_of l.text ≡ with_fields l.fields (parts l.rest)
 
-abbrev pub decreases-loop-at : goal.decreases-loop-at
-decreases-loop-at l = length l.text + 1 - l.at
+abbrev pub decreases-loop-rest : goal.decreases-loop-rest
+decreases-loop-rest l = length l.rest
