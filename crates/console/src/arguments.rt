@@ -13,15 +13,11 @@ pub const NAME_BYTES: usize = 4096;
 pub fn is_standard_input(name: &[u8]) -> bool
     ensures { result ≡ is_dash name.now }
 {
-    if name.len() == 1 {
-        name[0] == b'-'
-    } else {
-        false
-    }
+    matches!(name, b"-")
 }
 
-// The length of an argument that is put at the start of the space; 0 of one that has no room there, and nothing where
-// there are no more.
+// The length of an argument that is put at the start of the space; 0 of one that has no room there, since no file has an
+// empty name; and nothing where there are no more.
 pub fn argument(env: &impl Env, index: usize, space: &mut [u8]) -> Option<usize>
     ensures { IfSome result (λ n. IsPrefixLen n space.new) }
 {

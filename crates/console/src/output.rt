@@ -1,8 +1,6 @@
 // What a program says, on standard output and standard error. A text that could not be written is an error, and the
 // program is to end.
-ghost use Rattle.std.specs.Prelude.{◌≤◌};
-
-use super::{LINE_BYTES, Line};
+use super::Line;
 use std::fmt;
 use std::io::{Error, Result};
 
@@ -11,16 +9,10 @@ pub fn say(rt: &impl Print, text: &[u8]) -> Result<()> {
     rt.write_all(text)
 }
 
-fn at_most(most: usize, length: usize) -> usize
-    ensures { result ≤ most }
-{
-    if length <= most { length } else { most }
-}
-
 impl Line {
     // What has been put together.
     pub fn say(self, rt: &impl Print) -> Result<()> {
-        say(rt, &self.bytes[..at_most(LINE_BYTES, self.length)])
+        say(rt, &self.bytes)
     }
 }
 
@@ -31,6 +23,7 @@ pub fn say_name(rt: &impl Print, name: &[u8]) -> Result<()> {
     say(rt, b"\n")
 }
 
+// `u64` is not `From<usize>`, so a place is cast.
 // `refused N P`, the number and the place of a refusal.
 pub fn say_refused(rt: &impl Print, number: u32, place: usize) -> Result<()> {
     Line::empty()
@@ -66,7 +59,7 @@ pub fn complain(rt: &impl Eprint, text: &[u8]) {
 
 // Bytes that need not be text, as a file's name. What is no UTF-8 in them is shown as U+FFFD.
 #[derive(Drop)]
-struct Shown<'a>(&'a [u8]);
+pub(crate) struct Shown<'a>(pub(crate) &'a [u8]);
 
 impl<'a> fmt::Display for Shown<'a> {
     fn fmt<W: fmt::Write>(&self, f: &mut fmt::Formatter<W>) -> fmt::Result {
