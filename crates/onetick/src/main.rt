@@ -10,98 +10,59 @@
 
 mod help;
 
-use console::{Line, arguments, inputs, output};
+use console::arguments::ask_for_help;
+use console::files::{FileProgram, Files};
+use console::programs::run_inputs;
+use console::{Line, output};
 use fleet::Fleet;
 use flight::file_flown;
 use planner::Rule;
-use refusals::Refusal;
-use std::io::{Input, Read, Result};
-use std::rt::{Env, Files};
+use records::RECORD_WORDS;
+use std::io::Result;
 
 // The words of a record that are printed: its position and its velocity.
 const SHOWN_WORDS: usize = 6;
 
-// An input that has no room here is refused for its length.
-const SPACE_BYTES: usize = 65536;
+// Each `say` fails where a write of standard output fails, and the program ends with that error.
 
-// Each `say` and each `run` fails where a write of standard output fails, and the program ends with that error.
-
-fn say_agent(rt: &impl Print, fleet: Fleet, index: usize) -> Result<()> {
-    let read = fleet.read(index);
-    let words = read.words;
+// `u64` is not `From<usize>`, so what is counted by a usize is cast.
+fn say_agent(rt: &impl Print, index: usize, words: [u32; RECORD_WORDS]) -> Result<()> {
     let mut line = Line::empty().decimal(index as u64);
-    let mut place = 0;
-    while place < SHOWN_WORDS {
-        line = line.text(b" ").word(words[place]);
-        place += 1;
+    for &word in &words[..SHOWN_WORDS] {
+        line = line.text(b" ").word(word);
     }
     line.text(b"\n").say(rt)
 }
 
 fn say_fleet(rt: &impl Print, fleet: Fleet) -> Result<()> {
-    let count = fleet.agent_count();
-    let mut index = 0;
-    while index < count {
-        say_agent(rt, fleet, index)?;
-        index += 1;
+    let mut fleet = fleet;
+    for index in 0..fleet.agent_count() {
+        let read = fleet.read(index);
+        say_agent(rt, index, read.words)?;
+        fleet = read.fleet;
     }
     Ok(())
 }
 
-fn run(rt: &impl Print, file: &[u8]) -> Result<()> {
-    let flown = file_flown(file, 1, 0.5, Rule::Near);
-    let answer = flown.answer;
-    let fleet = flown.fleet;
-    if answer.number() == 0 {
-        say_fleet(rt, fleet)
-    } else {
-        output::say_refused(rt, answer.number(), answer.place())
-    }
-}
+#[derive(Drop)]
+struct OneTick;
 
-// A file that has no room in the space has more than 64 records: it is refused for its length alone.
-fn run_input(rt: &(impl Print + Eprint), input: &mut impl Read, name: &[u8]) -> Result<()> {
-    let mut space = [0u8; SPACE_BYTES];
-    let whole = inputs::read_whole(input, &mut space);
-    if let Some(reason) = &whole.failure {
-        return output::say_unreadable(rt, name, reason);
+// As in `tenticks`, but for what comes of a fleet: console sees none.
+impl FileProgram for OneTick {
+    fn run_file(&mut self, rt: &impl Print, file: &[u8]) -> Result<()> {
+        let flown = file_flown(file, 1, 0.5, Rule::Near);
+        let answer = flown.answer;
+        if answer.number() == 0 {
+            say_fleet(rt, flown.fleet)
+        } else {
+            output::say_refused(rt, answer.number(), answer.place())
+        }
     }
-    let bytes = whole.bytes;
-    if bytes < whole.length {
-        let refusal = Refusal::BadFile {
-            bytes: whole.length,
-        };
-        return output::say_refused(rt, refusal.number(), refusal.place());
-    }
-    run(rt, &space[..bytes])
-}
-
-// An argument that is too long for a name is read as an empty one, which no file has.
-fn run_argument(rt: &(impl Print + Eprint + Input + Files), name: &[u8]) -> Result<()> {
-    output::say_name(rt, name)?;
-    match inputs::open(rt, name) {
-        Ok(mut input) => run_input(rt, &mut input, name),
-        Err(reason) => output::say_unreadable(rt, name, &reason),
-    }
-}
-
-fn run_arguments(rt: &(impl Print + Eprint + Input + Files + Env)) -> Result<()> {
-    let mut space = [0u8; arguments::NAME_BYTES];
-    for index in 1..usize::MAX {
-        let Some(length) = arguments::argument(rt, index, &mut space) else {
-            return Ok(());
-        };
-        run_argument(rt, &space[..length])?;
-    }
-    Ok(())
 }
 
 fn main(rt: HostRuntime) -> Result<()> {
-    if arguments::ask_for_help(&rt) {
+    if ask_for_help(&rt) {
         return help::say_help(&rt);
     }
-    if !arguments::is_there(&rt, 1) {
-        return run_input(&rt, &mut rt.reader(), b"standard input");
-    }
-    run_arguments(&rt)
+    run_inputs(&rt, &mut Files(OneTick))
 }

@@ -2,6 +2,7 @@
 // the length of scratch, which is held to its limit in every call.
 use planner::Rule;
 use records::RECORD_WORDS;
+use std::array;
 use vectors::Vec3;
 use vectors::number::from_word;
 
@@ -25,144 +26,130 @@ pub(crate) const MOST_SCRATCH: usize = 1024;
 // Nor a longer buffer, in bytes.
 pub(crate) const MOST_BUFFER: usize = 8192;
 
-// The calls that hand a new fleet back and say their answer alone, each with its kind and what it takes.
+// A call, by its kind, with what it takes.
 #[derive(Clone, Copy)]
-pub enum Change {
+pub enum Call {
     // 1: the arguments, a record's words
-    Add,
+    Add {
+        words: [u32; RECORD_WORDS],
+    },
     // 2: the index; the same
-    Put,
+    Put {
+        index: usize,
+        words: [u32; RECORD_WORDS],
+    },
     // 3: the index
-    Remove,
+    Remove {
+        index: usize,
+    },
+    // 4: the index
+    Read {
+        index: usize,
+    },
     // 5: the index; three arguments, a goal's numbers
-    Goal,
+    Goal {
+        index: usize,
+        goal: Vec3,
+    },
     // 6: the first argument, the time step; the second, 0 for the source rule and 1 for the near rule
-    Open(Rule),
+    Open {
+        time_step: f32,
+        rule: Rule,
+    },
     // 7: the index, the length of scratch
-    Plan,
+    Plan {
+        index: usize,
+        scratch: usize,
+    },
     // 8
     Close,
     // 9
     Drop,
     // 10: the first argument, the length in bytes of a fleet file; the file, which follows the call
-    Load,
-}
-
-// Those that leave the fleet as it is.
-#[derive(Clone, Copy)]
-pub enum Look {
-    // 4: the index
-    Read,
+    Load {
+        length: u32,
+    },
     // 11: the first argument, the length in bytes of the buffer lent
-    Save,
+    Save {
+        length: usize,
+    },
     // 12, a read by the reader: the index; the length of a fleet file and the file, as for a load
-    Record,
-}
-
-#[derive(Clone, Copy)]
-pub enum Call {
-    Change(Change),
-    Look(Look),
+    Record {
+        index: usize,
+        length: u32,
+    },
     // 13, a plan that shows its scratch: the index, the length of scratch; the first argument, the word of the first
     // number that stands there before the plan, with the next word for each number after it
-    PlanShown,
+    PlanShown {
+        index: usize,
+        scratch: usize,
+        first: u32,
+    },
 }
 
-// What 22 words are read as.
-#[derive(Clone, Copy)]
-pub enum Form {
-    Call(Call),
-    Unknown,
-}
-
-fn changing(change: Change) -> Form {
-    Form::Call(Call::Change(change))
-}
-
-fn looking(look: Look) -> Form {
-    Form::Call(Call::Look(look))
-}
-
-fn opening(rule: u32) -> Form {
-    match rule {
-        0 => changing(Change::Open(Rule::Source)),
-        1 => changing(Change::Open(Rule::Near)),
-        _ => Form::Unknown,
+impl Call {
+    // `usize` is not `From<u32>`, so a word that counts is cast.
+    // The call that words are, if they are one.
+    pub(crate) fn read(words: [u32; CALL_WORDS]) -> Option<Call> {
+        let index = words[INDEX_WORD] as usize;
+        let scratch = words[SCRATCH_WORD] as usize;
+        let first = words[ARGUMENTS];
+        if MOST_SCRATCH < scratch {
+            return None;
+        }
+        Some(match words[KIND_WORD] {
+            1 => Call::Add {
+                words: arguments(words),
+            },
+            2 => Call::Put {
+                index,
+                words: arguments(words),
+            },
+            3 => Call::Remove { index },
+            4 => Call::Read { index },
+            5 => Call::Goal {
+                index,
+                goal: goal(words),
+            },
+            6 => Call::Open {
+                time_step: from_word(first),
+                rule: Rule::try_from(words[RULE_WORD]).ok()?,
+            },
+            7 => Call::Plan { index, scratch },
+            8 => Call::Close,
+            9 => Call::Drop,
+            10 => Call::Load { length: first },
+            11 if first as usize <= MOST_BUFFER => Call::Save {
+                length: first as usize,
+            },
+            12 => Call::Record {
+                index,
+                length: first,
+            },
+            13 => Call::PlanShown {
+                index,
+                scratch,
+                first,
+            },
+            _ => return None,
+        })
     }
-}
 
-fn saving(length: u32) -> Form {
-    if MOST_BUFFER < length as usize {
-        return Form::Unknown;
-    }
-    looking(Look::Save)
-}
-
-fn of_kind(kind: u32, words: [u32; CALL_WORDS]) -> Form {
-    match kind {
-        1 => changing(Change::Add),
-        2 => changing(Change::Put),
-        3 => changing(Change::Remove),
-        4 => looking(Look::Read),
-        5 => changing(Change::Goal),
-        6 => opening(words[RULE_WORD]),
-        7 => changing(Change::Plan),
-        8 => changing(Change::Close),
-        9 => changing(Change::Drop),
-        10 => changing(Change::Load),
-        11 => saving(words[ARGUMENTS]),
-        12 => looking(Look::Record),
-        13 => Form::Call(Call::PlanShown),
-        _ => Form::Unknown,
-    }
-}
-
-pub(crate) fn form_of(words: [u32; CALL_WORDS]) -> Form {
-    if MOST_SCRATCH < words[SCRATCH_WORD] as usize {
-        return Form::Unknown;
-    }
-    of_kind(words[KIND_WORD], words)
-}
-
-pub(crate) fn index(words: [u32; CALL_WORDS]) -> usize {
-    words[INDEX_WORD] as usize
-}
-
-pub(crate) fn scratch_length(words: [u32; CALL_WORDS]) -> usize {
-    words[SCRATCH_WORD] as usize
-}
-
-pub(crate) fn first_argument(words: [u32; CALL_WORDS]) -> u32 {
-    words[ARGUMENTS]
-}
-
-// The length of the file that follows the call; of none, where no file does.
-pub(crate) fn file_length(call: Call, words: [u32; CALL_WORDS]) -> u32 {
-    match call {
-        Call::Change(change) => match change {
-            Change::Load => words[ARGUMENTS],
+    // The length of the file that follows the call; of none, where no file does.
+    pub(crate) fn file_length(self) -> u32 {
+        match self {
+            Call::Load { length } | Call::Record { length, .. } => length,
             _ => 0,
-        },
-        Call::Look(look) => match look {
-            Look::Record => words[ARGUMENTS],
-            _ => 0,
-        },
-        Call::PlanShown => 0,
+        }
     }
 }
 
 // The arguments, as many as a record has words.
-pub(crate) fn arguments(words: [u32; CALL_WORDS]) -> [u32; RECORD_WORDS] {
-    let mut out = [0; RECORD_WORDS];
-    let mut place = 0;
-    while place < RECORD_WORDS {
-        out[place] = words[ARGUMENTS + place];
-        place += 1;
-    }
-    out
+fn arguments(words: [u32; CALL_WORDS]) -> [u32; RECORD_WORDS] {
+    array::from_fn(|place| words[ARGUMENTS + place])
 }
 
-pub(crate) fn goal(words: [u32; CALL_WORDS]) -> Vec3 {
+fn goal(words: [u32; CALL_WORDS]) -> Vec3 {
     Vec3 {
         x: from_word(words[ARGUMENTS]),
         y: from_word(words[ARGUMENTS + 1]),

@@ -5,7 +5,7 @@ use console::Line;
 use console::output::say;
 use fleet::{Answer, Fleet, Read};
 use records::RECORD_WORDS;
-use refusals::{Found, Refusal};
+use refusals::Refusal;
 use requests::{Course, Reply};
 use std::io::Result;
 use vectors::Vec3;
@@ -16,6 +16,7 @@ const NUMBERS_AT_ONCE: usize = 32;
 
 const BYTES_AT_ONCE: usize = 128;
 
+// `u64` is not `From<usize>`, so what is counted by a usize is cast.
 // `unreadable B`
 pub(crate) fn say_unreadable(rt: &impl Print, byte: usize) -> Result<()> {
     Line::empty()
@@ -25,11 +26,11 @@ pub(crate) fn say_unreadable(rt: &impl Print, byte: usize) -> Result<()> {
         .say(rt)
 }
 
-// `refused N P`
+// `refused N P`, as console's `say_refused` says it: here a longer line may begin so.
 fn refused(refusal: Refusal) -> Line {
     Line::empty()
         .text(b"refused ")
-        .decimal(refusal.number() as u64)
+        .decimal(u64::from(refusal.number()))
         .text(b" ")
         .decimal(refusal.place() as u64)
 }
@@ -46,36 +47,31 @@ fn with_velocity(line: Line, velocity: Vec3) -> Line {
 }
 
 // ` free` or ` relaxed K`
-fn with_relaxed(line: Line, relaxed: Found) -> Line {
+fn with_relaxed(line: Line, relaxed: Option<usize>) -> Line {
     match relaxed {
-        Found::Nothing => line.text(b" free"),
-        Found::At(plane) => line.text(b" relaxed ").decimal(plane as u64),
+        None => line.text(b" free"),
+        Some(plane) => line.text(b" relaxed ").decimal(plane as u64),
     }
 }
 
 // ` unseen J`, or nothing
-fn with_unseen(line: Line, unseen: Found) -> Line {
+fn with_unseen(line: Line, unseen: Option<usize>) -> Line {
     match unseen {
-        Found::Nothing => line,
-        Found::At(agent) => line.text(b" unseen ").decimal(agent as u64),
+        None => line,
+        Some(agent) => line.text(b" unseen ").decimal(agent as u64),
     }
 }
 
 // `velocity X Y Z free` or `velocity X Y Z relaxed K`, and ` unseen J` where an agent is named
 fn course_line(course: Course) -> Line {
-    let velocity = course.velocity;
-    let relaxed = course.relaxed;
-    let unseen = course.unseen;
-    with_unseen(
-        with_relaxed(with_velocity(Line::empty(), velocity), relaxed),
-        unseen,
-    )
+    let line = with_velocity(Line::empty(), course.velocity);
+    with_unseen(with_relaxed(line, course.relaxed), course.unseen)
 }
 
 fn reply_line(reply: Reply) -> Line {
     match reply {
-        Reply::Answered(course) => course_line(course),
-        Reply::Refused(refusal) => refused(refusal),
+        Ok(course) => course_line(course),
+        Err(refusal) => refused(refusal),
     }
 }
 
@@ -96,58 +92,41 @@ pub(crate) fn say_answer(rt: &impl Print, answer: Answer) -> Result<()> {
     answer_line(answer).text(b"\n").say(rt)
 }
 
-// Each number after a space.
-fn say_numbers(rt: &impl Print, numbers: &[f32]) -> Result<()> {
-    let mut line = Line::empty();
-    let mut index = 0;
-    while index < numbers.len() {
-        line = with_number(line, numbers[index]);
-        index += 1;
-        if index % NUMBERS_AT_ONCE == 0 {
-            line.say(rt)?;
-            line = Line::empty();
-        }
-    }
-    line.say(rt)
-}
-
-// A plan's line, then ` scratch`, and every number of it
+// A plan's line, then ` scratch`, and every number of it, each after a space
 pub(crate) fn say_plan(rt: &impl Print, answer: Answer, scratch: &[f32]) -> Result<()> {
     answer_line(answer).text(b" scratch").say(rt)?;
-    say_numbers(rt, scratch)?;
-    say(rt, b"\n")
-}
-
-fn say_bytes(rt: &impl Print, bytes: &[u8]) -> Result<()> {
-    let mut line = Line::empty();
-    let mut index = 0;
-    while index < bytes.len() {
-        line = line.byte(bytes[index]);
-        index += 1;
-        if index % BYTES_AT_ONCE == 0 {
-            line.say(rt)?;
-            line = Line::empty();
+    for numbers in scratch.chunks(NUMBERS_AT_ONCE) {
+        let mut line = Line::empty();
+        for &number in numbers {
+            line = with_number(line, number);
         }
+        line.say(rt)?;
     }
-    line.say(rt)
+    say(rt, b"\n")
 }
 
 // ` buffer`, and after a space its bytes, where it has any
 fn say_buffer(rt: &impl Print, buffer: &[u8]) -> Result<()> {
-    if buffer.len() == 0 {
+    if buffer.is_empty() {
         return say(rt, b" buffer\n");
     }
     say(rt, b" buffer ")?;
-    say_bytes(rt, buffer)?;
+    for bytes in buffer.chunks(BYTES_AT_ONCE) {
+        let mut line = Line::empty();
+        for &byte in bytes {
+            line = line.byte(byte);
+        }
+        line.say(rt)?;
+    }
     say(rt, b"\n")
 }
 
 // `saved N`, or a refusal's line
 fn saved_line(answer: Answer, bytes: usize) -> Line {
-    if let Answer::Done = answer {
-        return Line::empty().text(b"saved ").decimal(bytes as u64);
+    match answer {
+        Answer::Done => Line::empty().text(b"saved ").decimal(bytes as u64),
+        _ => answer_line(answer),
     }
-    answer_line(answer)
 }
 
 pub(crate) fn say_saved(
@@ -163,32 +142,27 @@ pub(crate) fn say_saved(
 // A record's words, with a space between them
 pub(crate) fn say_words(rt: &impl Print, words: [u32; RECORD_WORDS]) -> Result<()> {
     let mut line = Line::empty().word(words[0]);
-    let mut place = 1;
-    while place < RECORD_WORDS {
-        line = line.text(b" ").word(words[place]);
-        place += 1;
+    for &word in &words[1..] {
+        line = line.text(b" ").word(word);
     }
     line.text(b"\n").say(rt)
 }
 
-pub(crate) fn say_read(rt: &impl Print, read: Read) -> Result<()> {
-    let answer = read.answer;
-    let words = read.words;
-    if let Answer::Done = answer {
-        say_words(rt, words)
-    } else {
-        say_answer(rt, answer)
+// An agent's words, or a refusal's line. The fleet that was read is handed on.
+pub(crate) fn say_read(rt: &impl Print, read: Read) -> Result<Fleet> {
+    match read.answer {
+        Answer::Done => say_words(rt, read.words)?,
+        answer => say_answer(rt, answer)?,
     }
+    Ok(read.fleet)
 }
 
 // `fleet`, and the words of every agent
 pub(crate) fn say_fleet(rt: &impl Print, fleet: Fleet) -> Result<()> {
     say(rt, b"fleet\n")?;
-    let count = fleet.agent_count();
-    let mut index = 0;
-    while index < count {
-        say_read(rt, fleet.read(index))?;
-        index += 1;
+    let mut fleet = fleet;
+    for index in 0..fleet.agent_count() {
+        fleet = say_read(rt, fleet.read(index))?;
     }
     Ok(())
 }

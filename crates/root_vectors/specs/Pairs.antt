@@ -1,15 +1,13 @@
 -- What a line of `data/` says.
-use Rattle.std.specs.Prelude.{cond, List, ℕ, eqb, length, get_or, take, drop}
+use Rattle.std.specs.Prelude.{cond, List, ℕ, Option, Some, None, eqb, length, get_or, take, drop}
 use Rattle.lines.specs.Lines.{is_comment, word_of}
-use Rattle.lines.specs.declared.Number.{Number}
-use Rattle.lines.specs.declared.Number.TheVariants as number
 use Rattle.root_vectors.specs.declared.pairs.Line.{Line}
 use Rattle.root_vectors.specs.declared.pairs.Line.TheVariants as line
 
-abbrev pub pair_of : Number → Number → Line
-pair_of (number.Is x) (number.Is y) = line.Pair x y
-pair_of (number.Is x) number.Malformed = line.Malformed
-pair_of number.Malformed y = line.Malformed
+abbrev pub pair_of : Option ℕ → Option ℕ → Line
+pair_of (Some x) (Some y) = line.Pair x y
+pair_of (Some x) None = line.Malformed
+pair_of None y = line.Malformed
 
 -- a pair is two words of eight digits with a space between
 unfoldable pub line_of : List ℕ → Line

@@ -12,102 +12,42 @@ mod help;
 mod pairs;
 mod report;
 
-use console::arguments::{NAME_BYTES, argument, ask_for_help};
-use console::inputs;
+use console::arguments::ask_for_help;
+use console::lists::{ListProgram, Lists, Place};
+use console::programs::run_named;
 use pairs::Line;
-use report::{Tally, one_more};
-use std::io::{Input, Read, Result};
-use std::rt::{Env, Files};
+use report::Tally;
+use std::io::Result;
 use vectors::number::{from_word, to_word};
 use vectors::root::root;
 
-// The most bytes of a list, which `report` says too. There is room for one more, to know a longer one by.
-const MOST_BYTES: usize = 4096;
+impl ListProgram for Tally {
+    const MOST_BYTES: usize = 4096;
 
-fn run_pair(rt: &impl Print, argument: u32, wanted: u32, tally: Tally) -> Result<Tally> {
-    let got = to_word(root(from_word(argument)));
-    report::say_pair(rt, argument, wanted, got)?;
-    Ok(report::counted(tally, got == wanted))
-}
+    const KIND: &'static [u8] = b"PAIRS";
 
-fn run_line(rt: &impl Print, name: &[u8], number: u64, text: &[u8], tally: Tally) -> Result<Tally> {
-    match pairs::read_line(text) {
-        Line::Pair(argument, wanted) => run_pair(rt, argument, wanted, tally),
-        Line::Comment => Ok(tally),
-        Line::Malformed => {
-            report::say_malformed(rt, name, number)?;
-            Ok(tally)
+    fn cases(&self) -> u64 {
+        self.pairs
+    }
+
+    fn run_line(&mut self, rt: &impl Print, place: Place<'_>, line: &[u8]) -> Result<()> {
+        match pairs::read_line(line) {
+            Line::Pair(argument, wanted) => {
+                let got = to_word(root(from_word(argument)));
+                self.count(got == wanted);
+                report::say_pair(rt, argument, wanted, got)
+            }
+            Line::Comment => Ok(()),
+            Line::Malformed => report::say_malformed(rt, place),
         }
     }
-}
-
-fn run_text(rt: &impl Print, name: &[u8], text: &[u8], tally: Tally) -> Result<Tally> {
-    let mut tally = tally;
-    let mut number: u64 = 0;
-    let mut at = 0;
-    while at < text.len() {
-        let end = at + lines::length_until(&text[at..], b'\n');
-        number = one_more(number);
-        tally = run_line(rt, name, number, &text[at..end], tally)?;
-        at = end + 1;
-    }
-    Ok(tally)
-}
-
-fn run_input(
-    rt: &(impl Print + Eprint),
-    input: &mut impl Read,
-    name: &[u8],
-    tally: Tally,
-) -> Result<Tally> {
-    let mut space = [0u8; MOST_BYTES + 1];
-    let filled = inputs::fill(input, &mut space);
-    if let Some(reason) = &filled.failure {
-        report::say_unreadable(rt, name, reason)?;
-        return Ok(tally);
-    }
-    let bytes = filled.bytes;
-    if MOST_BYTES < bytes {
-        report::say_too_long(rt, name)?;
-        return Ok(tally);
-    }
-    let before = tally.pairs;
-    let after = run_text(rt, name, &space[..bytes], tally)?;
-    report::after_list(rt, after, name, before)?;
-    Ok(after)
-}
-
-fn run_file(
-    rt: &(impl Print + Eprint + Input + Files),
-    name: &[u8],
-    tally: Tally,
-) -> Result<Tally> {
-    match inputs::open(rt, name) {
-        Ok(mut input) => run_input(rt, &mut input, name, tally),
-        Err(reason) => {
-            report::say_unreadable(rt, name, &reason)?;
-            Ok(tally)
-        }
-    }
-}
-
-// An argument that is too long for a name is read as an empty one, which no file has.
-fn run_arguments(rt: &(impl Print + Eprint + Input + Files + Env)) -> Result<Tally> {
-    let mut space = [0u8; NAME_BYTES];
-    let mut tally = report::none();
-    for index in 1..usize::MAX {
-        let Some(length) = argument(rt, index, &mut space) else {
-            return Ok(tally);
-        };
-        tally = run_file(rt, &space[..length], tally)?;
-    }
-    Ok(tally)
 }
 
 fn main(rt: HostRuntime) -> Result<()> {
     if ask_for_help(&rt) {
         return help::say_help(&rt);
     }
-    let tally = run_arguments(&rt)?;
-    report::say_tally(&rt, tally)
+    let mut lists = Lists(Tally::default());
+    run_named(&rt, &mut lists)?;
+    report::say_tally(&rt, lists.0)
 }

@@ -1,35 +1,25 @@
 // What is printed, and the counts of it. A line is put together first and written at once, unless a name stands in it,
 // which may be long. A line that could not be written is an error, which ends the run.
 use console::Line;
-use console::output::{complain_of, say};
-use std::io::{Error, ErrorKind, Result};
+use console::lists::Place;
+use console::output::say;
+use std::io::Result;
 
-#[derive(Clone, Copy)]
+#[derive(Clone, Copy, Default)]
 pub struct Tally {
     pub pairs: u64,
     pub different: u64,
 }
 
-pub(crate) fn none() -> Tally {
-    Tally {
-        pairs: 0,
-        different: 0,
+impl Tally {
+    // A count that is full stays so: no list is that long. velocity_vectors counts its cases so, in the same three lines: no
+    // plainer as a type of console.
+    pub(crate) fn count(&mut self, is_same: bool) {
+        self.pairs = self.pairs.saturating_add(1);
+        if !is_same {
+            self.different = self.different.saturating_add(1);
+        }
     }
-}
-
-// A count that is full stays so: no list is that long.
-pub(crate) fn one_more(count: u64) -> u64 {
-    if count < u64::MAX { count + 1 } else { count }
-}
-
-// The tally after a pair.
-pub(crate) fn counted(tally: Tally, is_same: bool) -> Tally {
-    let mut tally = tally;
-    tally.pairs = one_more(tally.pairs);
-    if !is_same {
-        tally.different = one_more(tally.different);
-    }
-    tally
 }
 
 pub(crate) fn say_pair(rt: &impl Print, argument: u32, wanted: u32, got: u32) -> Result<()> {
@@ -46,43 +36,14 @@ pub(crate) fn say_pair(rt: &impl Print, argument: u32, wanted: u32, got: u32) ->
     }
 }
 
-pub(crate) fn say_malformed(rt: &impl Print, name: &[u8], number: u64) -> Result<()> {
-    let rest = Line::empty()
+// `u64` is not `From<usize>`, so what is counted by a usize is cast.
+pub(crate) fn say_malformed(rt: &impl Print, place: Place<'_>) -> Result<()> {
+    say(rt, place.name)?;
+    Line::empty()
         .text(b": no pair of words in line ")
-        .decimal(number)
-        .text(b"\n");
-    say(rt, name)?;
-    rest.say(rt)
-}
-
-fn say_named(rt: &impl Print, start: &[u8], name: &[u8], end: &[u8]) -> Result<()> {
-    say(rt, start)?;
-    say(rt, name)?;
-    say(rt, end)
-}
-
-// The reason is said on standard error.
-pub(crate) fn say_unreadable(
-    rt: &(impl Print + Eprint),
-    name: &[u8],
-    reason: &Error,
-) -> Result<()> {
-    complain_of(rt, name, reason);
-    say_named(rt, b"unreadable ", name, b"\n")
-}
-
-pub(crate) fn say_too_long(rt: &(impl Print + Eprint), name: &[u8]) -> Result<()> {
-    let reason = Error::new(ErrorKind::FileTooLarge, "has more than 4096 bytes");
-    complain_of(rt, name, &reason);
-    say_named(rt, b"unreadable ", name, b": has more than 4096 bytes\n")
-}
-
-// Says that a list had no pair, where there are no more than `before` it.
-pub(crate) fn after_list(rt: &impl Print, tally: Tally, name: &[u8], before: u64) -> Result<()> {
-    if before < tally.pairs {
-        return Ok(());
-    }
-    say_named(rt, b"NO PAIRS in ", name, b"\n")
+        .decimal(place.number as u64)
+        .text(b"\n")
+        .say(rt)
 }
 
 // Where there was no pair, the counts would both be 0 and look well.

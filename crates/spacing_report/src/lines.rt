@@ -2,9 +2,10 @@
 // lines could not be written.
 use console::Line;
 use spacing::whole_root::whole_root;
-use spacing::{Answer, Report, Sighting, Smallest};
+use spacing::{Refusal, Report, Sighting};
 use std::io::Result;
 
+// `u64` is not `From<usize>`, so a place is cast.
 fn with_sighting(line: Line, sighting: Sighting) -> Line {
     line.text(b"smallest ")
         .decimal(whole_root(sighting.squared))
@@ -19,10 +20,10 @@ fn with_sighting(line: Line, sighting: Sighting) -> Line {
         .text(b"\n")
 }
 
-fn with_smallest(line: Line, smallest: Smallest) -> Line {
+fn with_smallest(line: Line, smallest: Option<Sighting>) -> Line {
     match smallest {
-        Smallest::Nowhere => line.text(b"smallest none\n"),
-        Smallest::Seen(sighting) => with_sighting(line, sighting),
+        None => line.text(b"smallest none\n"),
+        Some(sighting) => with_sighting(line, sighting),
     }
 }
 
@@ -34,19 +35,20 @@ pub(crate) fn say_report(rt: &impl Print, report: Report, limit: u32) -> Result<
         .text(b"\n");
     with_smallest(frames, smallest)
         .text(b"below ")
-        .decimal(limit as u64)
+        .decimal(u64::from(limit))
         .text(b" mm: ")
         .decimal(report.below)
         .text(b"\n")
         .say(rt)
 }
 
-pub(crate) fn say_refused_frame(rt: &impl Print, answer: Answer, frame: usize) -> Result<()> {
+// As console's `say_refused`, with the frame behind it.
+pub(crate) fn say_refused_frame(rt: &impl Print, refusal: Refusal, frame: usize) -> Result<()> {
     Line::empty()
         .text(b"refused ")
-        .decimal(answer.number() as u64)
+        .decimal(u64::from(refusal.number()))
         .text(b" ")
-        .decimal(answer.place() as u64)
+        .decimal(refusal.place() as u64)
         .text(b" frame ")
         .decimal(frame as u64)
         .text(b"\n")

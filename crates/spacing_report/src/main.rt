@@ -12,109 +12,53 @@ mod frames;
 mod help;
 mod lines;
 
-ghost use Rattle.std.specs.Prelude.{◌≤◌};
-
-use arguments::{Number, is_at_most, number_at};
-use console::arguments::{NAME_BYTES, argument, ask_for_help, is_there};
+use arguments::{Asked, number_at};
+use console::arguments::{ask_for_help, is_there};
+use console::output;
 use console::output::complain;
-use console::{inputs, output};
-use frames::{Outcome, outcome_of};
-use spacing::Tally;
+use console::programs::{Program, run_inputs_from};
+use frames::{NoReport, report_of};
+use spacing::{Tallied, Tally};
 use std::io::{Input, Read, Result};
 use std::rt::{Env, Files};
 
-// A `report` fails where a write of standard output fails, and the program ends with that error.
+// The argument that names the first input, behind AGENTS and LIMIT.
+const FIRST_NAME: usize = 3;
 
-fn report_input(
-    rt: &(impl Print + Eprint),
-    input: &mut impl Read,
-    name: &[u8],
-    tally: Tally,
-    agents: usize,
-    limit: u32,
-) -> Result<()>
-    requires { agents ≤ 64 }
-{
-    match outcome_of(input, tally, agents) {
-        Outcome::Reported(report) => lines::say_report(rt, report, limit),
-        Outcome::Refused(answer, frame) => lines::say_refused_frame(rt, answer, frame),
-        Outcome::Unreadable(reason) => output::say_unreadable(rt, name, &reason),
+impl Program for Asked {
+    fn named(&mut self, rt: &impl Print, name: &[u8]) -> Result<()> {
+        output::say_name(rt, name)
     }
-}
 
-// An argument that is too long for a name is read as an empty one, which no file has.
-fn report_argument(
-    rt: &(impl Print + Eprint + Input + Files),
-    name: &[u8],
-    tally: Tally,
-    agents: usize,
-    limit: u32,
-) -> Result<()>
-    requires { agents ≤ 64 }
-{
-    output::say_name(rt, name)?;
-    match inputs::open(rt, name) {
-        Ok(mut input) => report_input(rt, &mut input, name, tally, agents, limit),
-        Err(reason) => output::say_unreadable(rt, name, &reason),
+    fn run(
+        &mut self,
+        rt: &(impl Print + Eprint),
+        input: &mut impl Read,
+        name: &[u8],
+    ) -> Result<()> {
+        match report_of(input, *self) {
+            Ok(report) => lines::say_report(rt, report, self.limit),
+            Err(NoReport::Refused(refusal, frame)) => lines::say_refused_frame(rt, refusal, frame),
+            Err(NoReport::Unreadable(reason)) => output::say_unreadable(rt, name, &reason),
+        }
     }
-}
-
-fn report_all(
-    rt: &(impl Print + Eprint + Input + Files + Env),
-    tally: Tally,
-    agents: usize,
-    limit: u32,
-) -> Result<()>
-    requires { agents ≤ 64 }
-{
-    if !is_there(rt, 3) {
-        return report_input(
-            rt,
-            &mut rt.reader(),
-            b"standard input",
-            tally,
-            agents,
-            limit,
-        );
-    }
-    let mut space = [0u8; NAME_BYTES];
-    for index in 3..usize::MAX {
-        let Some(length) = argument(rt, index, &mut space) else {
-            return Ok(());
-        };
-        report_argument(rt, &space[..length], tally, agents, limit)?;
-    }
-    Ok(())
 }
 
 // A tally for more than 64 agents is refused, and no other.
+#[tactic(auto, unfolding(spacing::specs::Tally::begun))]
 fn run(rt: &(impl Print + Eprint + Input + Files + Env), agents: usize, limit: u32) -> Result<()> {
-    let begun = Tally::begin(agents, limit);
-    let answer = begun.answer;
-    let tally = begun.tally;
-    if agents <= 64 {
-        report_all(rt, tally, agents, limit)
-    } else {
-        output::say_refused(rt, answer.number(), answer.place())
+    let Tallied { answer, tally } = Tally::begin(agents, limit);
+    match answer {
+        Ok(()) => {
+            let mut asked = Asked {
+                tally,
+                agents,
+                limit,
+            };
+            run_inputs_from(rt, FIRST_NAME, &mut asked)
+        }
+        Err(refusal) => output::say_refused(rt, refusal.number(), refusal.place()),
     }
-}
-
-// Where one of the two is not as it has to be, that is said already.
-fn run_numbers(
-    rt: &(impl Print + Eprint + Input + Files + Env),
-    agents: Number,
-    limit: Number,
-) -> Result<()> {
-    let Number::Is(agents) = agents else {
-        return Ok(());
-    };
-    let Number::Is(limit) = limit else {
-        return Ok(());
-    };
-    if limit <= 0xFFFF_FFFF {
-        return run(rt, agents as usize, limit as u32);
-    }
-    Ok(())
 }
 
 fn main(rt: HostRuntime) -> Result<()> {
@@ -129,18 +73,22 @@ fn main(rt: HostRuntime) -> Result<()> {
         return Ok(());
     }
     let agents = number_at(&rt, 1);
-    let limit = number_at(&rt, 2);
-    if let Number::Malformed = agents {
+    let limit = number_at(&rt, 2).and_then(|limit| u32::try_from(limit).ok());
+    if agents.is_none() {
         complain(
             &rt,
             b"spacing_report: AGENTS has to be a number in decimal digits; try --help\n",
         );
     }
-    if !is_at_most(limit, 0xFFFF_FFFF) {
+    if limit.is_none() {
         complain(
             &rt,
             b"spacing_report: LIMIT has to be a number in decimal digits, up to 4294967295; try --help\n",
         );
     }
-    run_numbers(&rt, agents, limit)
+    match (agents, limit) {
+        (Some(agents), Some(limit)) => run(&rt, agents, limit),
+        // which of them is not as it has to be is said already
+        _ => Ok(()),
+    }
 }

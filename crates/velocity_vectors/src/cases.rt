@@ -1,186 +1,100 @@
 // A case: the numbers of a velocity call, each at its place in document 01's list, the scratch that the
 // call is lent, the planes that are to stand there where it is answered, and the neighbour that is to be named.
-ghost use Rattle.std.specs.Prelude.{◌≡◌, ◌+◌, ◌≤◌, length};
-ghost use Rattle.velocity_vectors.specs.Cases.{Sized};
+ghost use Rattle.std.specs.Prelude.{◌+◌, ◌≤◌, length};
 
-use super::answers::NONE;
-use super::keys::Key;
-use lines::Fields;
+use super::said::Change;
+use requests::REQUEST_NUMBERS;
 use vectors::number::from_word;
 
-// There is room for the request's 17 numbers and 65 neighbours, two more than a call takes, and as much for
-// planes. What each field is for is said where a line sets it.
+// There is room for the request's 17 numbers and 65 neighbours, two more than a call takes, and as much for planes.
+const MOST_NUMBERS: usize = 537;
+
+// 63 neighbours ask for 756 numbers.
+pub(crate) const MOST_SCRATCH: usize = 800;
+
+// The numbers are an array with their length, and no `ArrayVec`: numbers at a place are written over those that stand there
+// and past them, in one slice.
 #[derive(Clone, Copy)]
 pub struct Case {
-    pub numbers: [f32; 537],
+    pub numbers: [f32; MOST_NUMBERS],
     pub length: usize,
     pub scratch: usize,
     pub fill: u32,
-    pub planes: [f32; 537],
-    pub unseen: usize,
+    pub planes: [f32; MOST_NUMBERS],
+    pub unseen: Option<usize>,
+    ghost whole: { 17 ≤ length },
+    ghost short: { length ≤ 537 },
+    ghost room: { scratch ≤ 800 },
 }
 
-// The case that a line leaves, and whether the line asked for what a case can't have.
-#[derive(Clone, Copy)]
-pub struct Next {
-    pub case: Case,
-    pub malformed: bool,
-}
-
-// A request of +0s, no neighbours and no scratch.
-pub(crate) fn empty() -> Case
-    ensures { Sized result }
-{
-    Case {
-        numbers: [0.0; 537],
-        length: 17,
-        scratch: 0,
-        fill: 0,
-        planes: [0.0; 537],
-        unseen: NONE,
+// Puts words at the start of the numbers, as far as there is room.
+fn put(numbers: &mut [f32], words: &[u32]) {
+    for (number, &word) in numbers.iter_mut().zip(words) {
+        *number = from_word(word);
     }
 }
 
-fn changed(case: Case) -> Next
-    requires { Sized case }
-    ensures { Sized result.case }
-{
-    Next {
-        case,
-        malformed: false,
+impl Case {
+    // A request of +0s, no neighbours and no scratch.
+    pub(crate) fn empty() -> Case {
+        Case {
+            numbers: [0.0; MOST_NUMBERS],
+            length: REQUEST_NUMBERS,
+            scratch: 0,
+            fill: 0,
+            planes: [0.0; MOST_NUMBERS],
+            unseen: None,
+        }
     }
-}
 
-fn unchanged(case: Case) -> Next
-    requires { Sized case }
-    ensures { Sized result.case }
-{
-    Next {
-        case,
-        malformed: true,
+    fn with_numbers(mut self, at: usize, words: &[u32]) -> Option<Case> {
+        if self.length < at || MOST_NUMBERS - at < words.len() {
+            return None;
+        }
+        let end = at + words.len();
+        put(&mut self.numbers[at..end], words);
+        self.length = self.length.max(end);
+        Some(self)
     }
-}
 
-// The numbers with those from `at` on given by words.
-fn put(numbers: [f32; 537], at: usize, words: [u32; 8], count: usize) -> [f32; 537]
-    requires { (537 ≡ length numbers) × (at + count ≤ 537) × (count ≤ 8) }
-    ensures { 537 ≡ length result }
-{
-    let mut numbers = numbers;
-    let mut i = 0;
-    while i < count {
-        numbers[at + i] = from_word(words[i]);
-        i += 1;
+    fn with_length(mut self, length: usize) -> Option<Case> {
+        if length < REQUEST_NUMBERS || self.length < length {
+            return None;
+        }
+        self.length = length;
+        Some(self)
     }
-    numbers
-}
 
-fn lengthened(case: Case, length: usize) -> Case
-    requires { Sized case × (length ≤ 537) }
-    ensures { Sized result }
-{
-    let mut case = case;
-    if length <= case.length {
-        return case;
+    fn with_scratch(mut self, length: usize, fill: u32) -> Option<Case> {
+        if MOST_SCRATCH < length {
+            return None;
+        }
+        self.scratch = length;
+        self.fill = fill;
+        Some(self)
     }
-    case.length = length;
-    case
-}
 
-// `at P W ..`: the numbers from place P on are the words W. They may go on past the last number.
-fn with_numbers(case: Case, fields: Fields) -> Next
-    requires { Sized case }
-    ensures { Sized result.case }
-{
-    let mut case = case;
-    let at = fields.counts[0];
-    let count = fields.worded;
-    if case.length < at {
-        return unchanged(case);
+    fn with_plane(mut self, index: usize, words: &[u32]) -> Option<Case> {
+        if 64 <= index {
+            return None;
+        }
+        put(&mut self.planes[6 * index..6 * index + 6], words);
+        Some(self)
     }
-    if 8 < count {
-        return unchanged(case);
-    }
-    let end = at + count;
-    if 537 < end {
-        return unchanged(case);
-    }
-    let before = case.numbers;
-    let words = fields.words;
-    let numbers = put(before, at, words, count);
-    case.numbers = numbers;
-    changed(lengthened(case, end))
-}
 
-// `cut N`: there are N numbers.
-fn with_length(case: Case, fields: Fields) -> Next
-    requires { Sized case }
-    ensures { Sized result.case }
-{
-    let mut case = case;
-    let length = fields.counts[0];
-    if length < 17 {
-        return unchanged(case);
+    fn with_unseen(mut self, neighbour: usize) -> Case {
+        self.unseen = Some(neighbour);
+        self
     }
-    if case.length < length {
-        return unchanged(case);
-    }
-    case.length = length;
-    changed(case)
-}
 
-// `scratch N W`: scratch has N numbers, and the one at i is the word W + i.
-fn with_scratch(case: Case, fields: Fields) -> Next
-    requires { Sized case }
-    ensures { Sized result.case }
-{
-    let mut case = case;
-    let length = fields.counts[0];
-    if 800 < length {
-        return unchanged(case);
-    }
-    case.scratch = length;
-    case.fill = fields.words[0];
-    changed(case)
-}
-
-// `plane K W W W W W W`: the plane of neighbour K, point and normal.
-fn with_plane(case: Case, fields: Fields) -> Next
-    requires { Sized case }
-    ensures { Sized result.case }
-{
-    let mut case = case;
-    let index = fields.counts[0];
-    if 64 <= index {
-        return unchanged(case);
-    }
-    let before = case.planes;
-    let words = fields.words;
-    let planes = put(before, 6 * index, words, 6);
-    case.planes = planes;
-    changed(case)
-}
-
-// `unseen K`: the first neighbour that is unseen is K.
-fn with_unseen(case: Case, fields: Fields) -> Next
-    requires { Sized case }
-    ensures { Sized result.case }
-{
-    let mut case = case;
-    case.unseen = fields.counts[0];
-    changed(case)
-}
-
-pub(crate) fn change(case: Case, key: Key, fields: Fields) -> Next
-    requires { Sized case }
-    ensures { Sized result.case }
-{
-    match key {
-        Key::At => with_numbers(case, fields),
-        Key::Cut => with_length(case, fields),
-        Key::Scratch => with_scratch(case, fields),
-        Key::Plane => with_plane(case, fields),
-        Key::Unseen => with_unseen(case, fields),
-        _ => unchanged(case),
+    // The case with a change, unless it can't have that.
+    pub(crate) fn changed(self, change: Change<'_>) -> Option<Case> {
+        match change {
+            Change::Numbers { at, words } => self.with_numbers(at, words),
+            Change::Length(length) => self.with_length(length),
+            Change::Scratch { length, fill } => self.with_scratch(length, fill),
+            Change::Plane { index, words } => self.with_plane(index, words),
+            Change::Unseen(neighbour) => Some(self.with_unseen(neighbour)),
+        }
     }
 }

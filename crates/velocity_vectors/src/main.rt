@@ -24,298 +24,163 @@
 //     refused N P          the refusal N, with the place P
 #![tactic(auto)]
 
-ghost use Rattle.std.specs.Prelude.{◌≤◌, length, IfOk};
-ghost use Rattle.velocity_vectors.specs.Cases.{Sized, Kept};
+ghost use Rattle.std.specs.Prelude.{◌≤◌, length};
 
 mod answers;
 mod cases;
 mod help;
 mod judgements;
-mod keys;
 mod report;
+mod said;
 mod scratch;
 
-use answers::{Answer, Wanted};
+use answers::Answer;
 use avoidance::velocity::velocity;
-use cases::Case;
-use console::arguments::{NAME_BYTES, argument, ask_for_help};
-use console::{Line, inputs};
-use judgements::Judgement;
-use keys::Key;
-use lines::Fields;
-use planes::lent::{ReadRequest, read_request};
-use report::{Tally, one_more};
-use requests::Request;
-use std::io::{Input, Read, Result};
-use std::rt::{Env, Files};
+use cases::{Case, MOST_SCRATCH};
+use console::Line;
+use console::arguments::ask_for_help;
+use console::lists::{ListProgram, Lists, Place};
+use console::programs::run_named;
+use judgements::Difference;
+use planes::lent::read_request;
+use report::Tally;
+use said::{Change, Said};
+use std::io;
 
-// The most bytes of a file, which `report` says too. There is room for one more, to know a longer one by.
-const MOST_BYTES: usize = 65536;
+// Why a line comes to nothing: it can't be read, or what it says could not be written.
+#[derive(Drop)]
+enum Fault {
+    Malformed,
+    Unwritten(io::Error),
+}
 
-// What the lines so far have come to. A case starts from `standard`, which is what stood before the first
-// one, and is open until its answer, which is said behind its name, in `line`.
-#[derive(Clone, Copy)]
+// What stands between two lines of a list.
+#[derive(Drop)]
 struct State {
-    standard: Case,
     case: Case,
-    started: bool,
-    open: bool,
-    line: Line,
-    malformed: bool,
+    // what every case starts from: what stands before the first of the list, once that is begun
+    standard: Option<Case>,
+    // the line of the case that has no answer yet, up to its name
+    open: Option<Line>,
     tally: Tally,
 }
 
-fn answer_to(request: Request, neighbours: &[f32], scratch: &mut [f32]) -> Answer {
-    answers::answer_of(velocity(request, neighbours, scratch))
-}
-
+#[tactic(auto, unfolding(planes::specs::Lent::read_request))]
 fn call(numbers: &[f32], scratch: &mut [f32]) -> Answer
     requires { 17 ≤ length numbers.now }
 {
-    let ReadRequest::Is(request) = read_request(&numbers[0..17]) else {
-        return answers::refusal(255, 0);
+    let Some(request) = read_request(&numbers[..17]) else {
+        unreachable!()
     };
-    answer_to(request, &numbers[17..], scratch)
+    answers::answer_of(velocity(request, &numbers[17..], scratch))
 }
 
 // Runs a case on the scratch that is lent to it.
-fn run_in(scratch: &mut [f32], case: Case, wanted: Answer) -> Judgement
-    requires { Sized case × (length scratch.old ≤ 800) }
+fn run_in(scratch: &mut [f32], case: &Case, wanted: Answer) -> Option<Difference>
+    requires { length scratch.old ≤ 800 }
 {
-    let numbers = case.numbers;
-    let length = case.length;
     scratch::fill_with(scratch, case.fill);
-    let got = call(&numbers[0..length], scratch);
+    let got = call(&case.numbers[..case.length], scratch);
     judgements::judge(case, wanted, got, scratch)
 }
 
-fn run(case: Case, wanted: Answer) -> Judgement
-    requires { Sized case }
-{
-    let size = case.scratch;
-    // 63 neighbours ask for 756 numbers.
-    let mut space = [0.0f32; 800];
-    run_in(&mut space[0..size], case, wanted)
+fn run(case: &Case, wanted: Answer) -> Option<Difference> {
+    let mut space = [0.0f32; MOST_SCRATCH];
+    run_in(&mut space[..case.scratch], case, wanted)
 }
 
-// Ends a case that has no answer.
-fn close(rt: &impl Print, state: State) -> Result<State>
-    requires { Kept state }
-    ensures { IfOk result Kept }
-{
-    let mut state = state;
-    if state.open {
-        state.tally = report::unanswered(rt, state.tally, state.line)?;
-        state.open = false;
+impl State {
+    fn new() -> State {
+        State {
+            case: Case::empty(),
+            standard: None,
+            open: None,
+            tally: Tally::default(),
+        }
     }
-    Ok(state)
-}
 
-// The first case finds what stands before it.
-fn begun(state: State) -> State
-    requires { Kept state }
-    ensures { Kept result }
-{
-    let mut state = state;
-    if state.started {
-        return state;
+    // Ends a case that has no answer.
+    fn close(&mut self, rt: &impl Print) -> io::Result<()> {
+        match self.open.take() {
+            Some(line) => self.tally.unanswered(rt, line),
+            None => Ok(()),
+        }
     }
-    let first = state.case;
-    state.standard = first;
-    state.started = true;
-    state
-}
 
-// `case NAME`: the name is kept for the line of its answer.
-fn start(rt: &impl Print, name: &[u8], state: State) -> Result<State>
-    requires { Kept state }
-    ensures { IfOk result Kept }
-{
-    let mut state = begun(close(rt, state)?);
-    let standard = state.standard;
-    state.case = standard;
-    state.open = true;
-    state.line = report::with_name(rt, Line::empty(), name)?.text(b": ");
-    Ok(state)
-}
-
-fn malformed(state: State) -> State
-    requires { Kept state }
-    ensures { Kept result }
-{
-    let mut state = state;
-    state.malformed = true;
-    state
-}
-
-fn answer(rt: &impl Print, wanted: Answer, state: State) -> Result<State>
-    requires { Kept state }
-    ensures { IfOk result Kept }
-{
-    let mut state = state;
-    if !state.open {
-        return Ok(malformed(state));
+    // `case NAME`: the name is kept for the line of its answer.
+    fn start(&mut self, rt: &impl Print, name: &[u8]) -> io::Result<()> {
+        self.close(rt)?;
+        let standard = self.standard.unwrap_or(self.case);
+        self.standard = Some(standard);
+        self.case = standard;
+        self.open = Some(report::with_name(rt, Line::empty(), name)?.text(b": "));
+        Ok(())
     }
-    let named = answers::naming(wanted, state.case.unseen);
-    let judgement = run(state.case, named);
-    state.tally = report::judged(rt, state.tally, state.line, judgement)?;
-    state.open = false;
-    Ok(state)
-}
 
-// After an answer there is nothing to change until the next case.
-fn is_over(state: State) -> bool {
-    if state.started { !state.open } else { false }
-}
+    fn answer(&mut self, rt: &impl Print, mut wanted: Answer) -> Result<(), Fault> {
+        let line = self.open.take().ok_or(Fault::Malformed)?;
+        wanted.unseen = self.case.unseen;
+        self.tally
+            .judged(rt, line, run(&self.case, wanted))
+            .map_err(Fault::Unwritten)
+    }
 
-fn change(key: Key, fields: Fields, state: State) -> State
-    requires { Kept state }
-    ensures { Kept result }
-{
-    let mut state = state;
-    if is_over(state) {
-        return malformed(state);
+    // After an answer there is nothing to change until the next case.
+    fn change(&mut self, change: Change<'_>) -> Result<(), Fault> {
+        if self.standard.is_some() && self.open.is_none() {
+            return Err(Fault::Malformed);
+        }
+        self.case = self.case.changed(change).ok_or(Fault::Malformed)?;
+        Ok(())
     }
-    let next = cases::change(state.case, key, fields);
-    let changed = next.case;
-    state.case = changed;
-    state.malformed = next.malformed;
-    state
-}
 
-fn run_fields(rt: &impl Print, key: Key, fields: Fields, state: State) -> Result<State>
-    requires { Kept state }
-    ensures { IfOk result Kept }
-{
-    if !keys::is_formed(key, fields) {
-        return Ok(malformed(state));
-    }
-    match answers::read_wanted(key, fields) {
-        Wanted::Is(wanted) => answer(rt, wanted, state),
-        Wanted::Malformed => Ok(change(key, fields, state)),
-    }
-}
-
-fn run_key(rt: &impl Print, key: Key, text: &[u8], state: State) -> Result<State>
-    requires { Kept state }
-    ensures { IfOk result Kept }
-{
-    if let Key::Case = key {
-        start(rt, text, state)
-    } else {
-        run_fields(rt, key, lines::read_fields(text), state)
-    }
-}
-
-// Says that a line is malformed.
-fn said(rt: &impl Print, name: &[u8], number: u64, state: State) -> Result<State>
-    requires { Kept state }
-    ensures { IfOk result Kept }
-{
-    let mut state = state;
-    state.tally = report::malformed(rt, state.tally, name, number)?;
-    state.malformed = false;
-    Ok(state)
-}
-
-fn run_line(rt: &impl Print, name: &[u8], number: u64, text: &[u8], state: State) -> Result<State>
-    requires { Kept state }
-    ensures { IfOk result Kept }
-{
-    if lines::is_comment(text) {
-        return Ok(state);
-    }
-    let state = run_key(rt, keys::read_key(text), lines::after_key(text), state)?;
-    if state.malformed {
-        said(rt, name, number, state)
-    } else {
-        Ok(state)
-    }
-}
-
-fn unstarted(tally: Tally) -> State
-    ensures { Kept result }
-{
-    let empty = cases::empty();
-    State {
-        standard: empty,
-        case: empty,
-        started: false,
-        open: false,
-        line: Line::empty(),
-        malformed: false,
-        tally,
-    }
-}
-
-fn run_text(rt: &impl Print, name: &[u8], text: &[u8], tally: Tally) -> Result<Tally> {
-    let mut state = unstarted(tally);
-    let mut number: u64 = 0;
-    let mut at = 0;
-    while at < text.len() {
-        let end = at + lines::length_until(&text[at..], b'\n');
-        number = one_more(number);
-        state = run_line(rt, name, number, &text[at..end], state)?;
-        at = end + 1;
-    }
-    let last = close(rt, state)?;
-    Ok(last.tally)
-}
-
-fn run_input(
-    rt: &(impl Print + Eprint),
-    input: &mut impl Read,
-    name: &[u8],
-    tally: Tally,
-) -> Result<Tally> {
-    let mut space = [0u8; MOST_BYTES + 1];
-    let filled = inputs::fill(input, &mut space);
-    if let Some(reason) = &filled.failure {
-        report::say_unreadable(rt, name, reason)?;
-        return Ok(tally);
-    }
-    let bytes = filled.bytes;
-    if MOST_BYTES < bytes {
-        report::say_too_long(rt, name)?;
-        return Ok(tally);
-    }
-    let before = tally.cases;
-    let after = run_text(rt, name, &space[..bytes], tally)?;
-    report::after_file(rt, after, name, before)?;
-    Ok(after)
-}
-
-fn run_file(
-    rt: &(impl Print + Eprint + Input + Files),
-    name: &[u8],
-    tally: Tally,
-) -> Result<Tally> {
-    match inputs::open(rt, name) {
-        Ok(mut input) => run_input(rt, &mut input, name, tally),
-        Err(reason) => {
-            report::say_unreadable(rt, name, &reason)?;
-            Ok(tally)
+    fn run(&mut self, rt: &impl Print, key: &[u8], text: &[u8]) -> Result<(), Fault> {
+        if key == b"case".as_slice() {
+            return self.start(rt, text).map_err(Fault::Unwritten);
+        }
+        let fields = lines::read_fields(text).ok_or(Fault::Malformed)?;
+        match said::read(key, &fields).ok_or(Fault::Malformed)? {
+            Said::Change(change) => self.change(change),
+            Said::Wanted(wanted) => self.answer(rt, wanted),
         }
     }
 }
 
-// An argument that is too long for a name is read as an empty one, which no file has.
-fn run_arguments(rt: &(impl Print + Eprint + Input + Files + Env)) -> Result<Tally> {
-    let mut space = [0u8; NAME_BYTES];
-    let mut tally = report::none();
-    for index in 1..usize::MAX {
-        let Some(length) = argument(rt, index, &mut space) else {
-            return Ok(tally);
-        };
-        tally = run_file(rt, &space[..length], tally)?;
+impl ListProgram for State {
+    const MOST_BYTES: usize = 65536;
+
+    const KIND: &'static [u8] = b"CASES";
+
+    fn cases(&self) -> u64 {
+        self.tally.cases
     }
-    Ok(tally)
+
+    fn begin(&mut self) {
+        self.case = Case::empty();
+        self.standard = None;
+    }
+
+    fn run_line(&mut self, rt: &impl Print, place: Place<'_>, line: &[u8]) -> io::Result<()> {
+        if lines::is_comment(line) {
+            return Ok(());
+        }
+        match self.run(rt, lines::key(line), lines::after_key(line)) {
+            Ok(()) => Ok(()),
+            Err(Fault::Malformed) => self.tally.malformed(rt, place),
+            Err(Fault::Unwritten(error)) => Err(error),
+        }
+    }
+
+    fn end(&mut self, rt: &impl Print) -> io::Result<()> {
+        self.close(rt)
+    }
 }
 
-fn main(rt: HostRuntime) -> Result<()> {
+fn main(rt: HostRuntime) -> io::Result<()> {
     if ask_for_help(&rt) {
         return help::say_help(&rt);
     }
-    let tally = run_arguments(&rt)?;
-    report::say_tally(&rt, tally)
+    let mut lists = Lists(State::new());
+    run_named(&rt, &mut lists)?;
+    report::say_tally(&rt, lists.0.tally)
 }

@@ -5,7 +5,7 @@ ghost use Rattle.velocity_vectors.specs.Scratch.{word_before, clears, wanted_wor
 
 use vectors::number::{from_word, to_word};
 
-// The word that scratch is filled with at `index`, where the first is `fill`.
+// The word that scratch is filled with at `index`, where the first is `fill`. `u32` is not `From<usize>`, so the index is cast.
 fn filled(fill: u32, index: usize) -> u32
     requires { index < 800 }
     ensures { result ≡ (fill + index) % 2 ^ 32 }
@@ -13,13 +13,13 @@ fn filled(fill: u32, index: usize) -> u32
     fill.wrapping_add(index as u32)
 }
 
+// That scratch has no more numbers, and no index past them, stands in each contract here, and in those of who lends it: a struct
+// that said so would hold one slice, and be made in one place.
 pub(crate) fn fill_with(scratch: &mut [f32], fill: u32)
     requires { length scratch.old ≤ 800 }
 {
-    let mut index = 0;
-    while index < scratch.len() {
-        scratch[index] = from_word(filled(fill, index));
-        index += 1;
+    for (index, number) in scratch.iter_mut().enumerate() {
+        *number = from_word(filled(fill, index));
     }
 }
 
@@ -37,13 +37,7 @@ fn word_before(fill: u32, index: usize) -> u32
 fn clears(number: usize) -> bool
     ensures { result ≡ clears number }
 {
-    if number == 6 {
-        true
-    } else if number == 7 {
-        true
-    } else {
-        number == 18
-    }
+    matches!(number, 6 | 7 | 18)
 }
 
 // The word that is to stand at `index` after the answer `number` on `neighbours` neighbours.
@@ -74,7 +68,7 @@ fn wanted_word(
     before
 }
 
-// The first index at which scratch does not hold what it is to hold, or its length.
+// The first index at which scratch does not hold what it is to hold, or its length: that is what the line prints.
 pub(crate) fn first_different(
     scratch: &[f32],
     number: usize,
@@ -86,12 +80,10 @@ pub(crate) fn first_different(
     ensures within { result ≤ length scratch.now }
     ensures same { AsWanted (wanted_word number neighbours planes.now fill) scratch.now result }
 {
-    let mut index = 0;
-    while index < scratch.len() {
-        if to_word(scratch[index]) != wanted_word(number, neighbours, planes, fill, index) {
+    for (index, &found) in scratch.iter().enumerate() {
+        if to_word(found) != wanted_word(number, neighbours, planes, fill, index) {
             return index;
         }
-        index += 1;
     }
-    index
+    scratch.len()
 }
