@@ -1,19 +1,19 @@
 // A program that takes each input as a list of cases, line by line.
-use super::output::{Shown, say};
+use super::output::{Shown, with_name};
 use super::programs::Program;
 use super::{Filled, Line, inputs, output};
 use std::io::{Error, Read, Result};
 
-// The most bytes that any list may have.
-const MOST_BYTES: usize = 65536;
-
 // What a program does with a list.
 pub trait ListProgram {
-    // The most bytes that its lists may have, if it is no more than `lists::MOST_BYTES`.
+    // The most bytes that its lists may have.
     const MOST_BYTES: usize;
 
     // What its cases are, in capitals.
     const KIND: &'static [u8];
+
+    // The longest name that is written at once with what is said of its list.
+    const SHORT_NAME: usize;
 
     // How many cases were run.
     fn cases(&self) -> u64;
@@ -35,6 +35,17 @@ pub trait ListProgram {
 pub struct Place<'a> {
     pub name: &'a [u8],
     pub number: usize,
+}
+
+// What lends the program a space for each list, of a byte more than it may have, to `run_list`: no array here has a size that is
+// the program's. Apart from `ListProgram`, which `run_list` goes on to.
+pub trait ListSpace: ListProgram {
+    fn run_in_space(
+        &mut self,
+        rt: &(impl Print + Eprint),
+        input: &mut impl Read,
+        name: &[u8],
+    ) -> Result<()>;
 }
 
 #[derive(Drop)]
@@ -65,52 +76,65 @@ fn run_text<P: ListProgram>(
     program.end(rt)?;
     if program.cases() == before {
         let start = Line::empty().text(b"NO ").text(P::KIND).text(b" in ");
-        say_named(rt, start, name, Line::empty().text(b"\n"))?;
+        with_name(rt, start, name, P::SHORT_NAME)?
+            .text(b"\n")
+            .say(rt)?;
     }
     Ok(())
 }
 
-// A name between two texts.
-fn say_named(rt: &impl Print, start: Line, name: &[u8], end: Line) -> Result<()> {
-    start.say(rt)?;
-    say(rt, name)?;
-    end.say(rt)
-}
-
 // `u64` is not `From<usize>`, so what is counted by a usize is cast.
 // The reason is said on standard error.
-fn say_too_long(rt: &(impl Print + Eprint), name: &[u8], most: usize) -> Result<()> {
+fn say_too_long(rt: &(impl Print + Eprint), name: &[u8], short: usize, most: usize) -> Result<()> {
     let shown = Shown(name);
     let _ = eprintln!(rt; "{shown}: has more than {most} bytes");
-    say_named(
-        rt,
-        Line::empty().text(b"unreadable "),
-        name,
-        Line::empty()
-            .text(b": has more than ")
-            .decimal(most as u64)
-            .text(b" bytes\n"),
-    )
+    with_name(rt, Line::empty().text(b"unreadable "), name, short)?
+        .text(b": has more than ")
+        .decimal(most as u64)
+        .text(b" bytes\n")
+        .say(rt)
 }
 
-impl<P: ListProgram> Program for Lists<P> {
+fn say_unreadable(
+    rt: &(impl Print + Eprint),
+    name: &[u8],
+    short: usize,
+    reason: &Error,
+) -> Result<()> {
+    output::complain_of(rt, name, reason);
+    with_name(rt, Line::empty().text(b"unreadable "), name, short)?
+        .text(b"\n")
+        .say(rt)
+}
+
+// Runs a list that has at most `MOST_BYTES`, or as many as the space but one if those are fewer: the last is to know a
+// longer list by. Into a space of no byte nothing is read.
+pub fn run_list<P: ListProgram>(
+    rt: &(impl Print + Eprint),
+    input: &mut impl Read,
+    name: &[u8],
+    space: &mut [u8],
+    program: &mut P,
+) -> Result<()> {
+    let most = P::MOST_BYTES.min(space.len().saturating_sub(1));
+    let Filled { bytes, failure } = inputs::fill(input, space);
+    if let Some(reason) = &failure {
+        return say_unreadable(rt, name, P::SHORT_NAME, reason);
+    }
+    if most < bytes {
+        return say_too_long(rt, name, P::SHORT_NAME, most);
+    }
+    run_text(rt, name, &space[..bytes], program)
+}
+
+impl<P: ListSpace> Program for Lists<P> {
     fn run(
         &mut self,
         rt: &(impl Print + Eprint),
         input: &mut impl Read,
         name: &[u8],
     ) -> Result<()> {
-        let most = P::MOST_BYTES.min(MOST_BYTES);
-        // one byte more, to know a longer list by
-        let mut space = [0u8; MOST_BYTES + 1];
-        let Filled { bytes, failure } = inputs::fill(input, &mut space[..most + 1]);
-        if let Some(reason) = &failure {
-            return self.unreadable(rt, name, reason);
-        }
-        if most < bytes {
-            return say_too_long(rt, name, most);
-        }
-        run_text(rt, name, &space[..bytes], &mut self.0)
+        self.0.run_in_space(rt, input, name)
     }
 
     fn unreadable(
@@ -119,12 +143,6 @@ impl<P: ListProgram> Program for Lists<P> {
         name: &[u8],
         reason: &Error,
     ) -> Result<()> {
-        output::complain_of(rt, name, reason);
-        say_named(
-            rt,
-            Line::empty().text(b"unreadable "),
-            name,
-            Line::empty().text(b"\n"),
-        )
+        say_unreadable(rt, name, P::SHORT_NAME, reason)
     }
 }

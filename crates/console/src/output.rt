@@ -4,6 +4,9 @@ use super::Line;
 use std::fmt;
 use std::io::{Error, Result};
 
+// The longest name that leaves room in a `Line` for what is said with it.
+pub const SHORT_NAME_BYTES: usize = 256;
+
 // A text, or the bytes of a file.
 pub fn say(rt: &impl Print, text: &[u8]) -> Result<()> {
     rt.write_all(text)
@@ -12,8 +15,18 @@ pub fn say(rt: &impl Print, text: &[u8]) -> Result<()> {
 impl Line {
     // What has been put together.
     pub fn say(self, rt: &impl Print) -> Result<()> {
-        say(rt, &self.bytes)
+        say(rt, &self.bytes[..self.length])
     }
+}
+
+// A line up to the name in it. Where the name is longer than `short`, that is written already, and what follows is put together alone.
+pub fn with_name(rt: &impl Print, line: Line, name: &[u8], short: usize) -> Result<Line> {
+    if name.len() <= short {
+        return Ok(line.text(name));
+    }
+    line.say(rt)?;
+    say(rt, name)?;
+    Ok(Line::empty())
 }
 
 // `file NAME`, before what comes of a file that is named.

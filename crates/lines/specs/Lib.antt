@@ -1,2 +1,3 @@
 -- What the contracts of `src/lib.rt` cite.
+pub mod Fields
 pub mod Lines

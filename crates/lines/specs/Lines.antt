@@ -1,7 +1,8 @@
 -- What a line of a stored list says: a comment, or a key with fields after it, a space before each.
-use Rattle.std.specs.Prelude.{ℕ, suc, ◌+◌, ◌-◌, ◌*◌, Bool, true, cond, List, [], ◌∷◌, ◌++◌, Option, Some, None, eqb, leb, ltb, length, get_or, take, drop}
-use Rattle.std.specs.Option.{option_and_then}
+use Rattle.std.specs.Prelude.{ℕ, suc, ◌+◌, ◌-◌, ◌*◌, Bool, true, cond, List, [], ◌∷◌, ◌++◌, Option, Some, None, Result, unwrap_or, eqb, leb, ltb, length, get_or, take, drop}
+use Rattle.std.specs.Option.{option_and_then, ok_or}
 use Rattle.lines.specs.declared.Fields.{Fields}
+use Rattle.lines.specs.declared.Malformed.{Malformed}
 
 -- how many bytes stand before the first b
 unfoldable pub length_until : ℕ → List ℕ → ℕ
@@ -54,15 +55,15 @@ parts (b ∷ s) = cond (eqb b 32) ([] ∷ parts s) (begun_by b (parts s))
 -- at most two counts, before all words
 unfoldable pub with_count : Fields → ℕ → Option Fields
 with_count f n =
-    cond (ltb 0 (length f.words.items)) None
-    (cond (leb 2 (length f.counts.items)) None
-    (Some (record { counts = record { items = f.counts.items ++ n ∷ [] }; words = f.words })))
+    cond (ltb 0 (length f.words)) None
+    (cond (leb 2 (length f.counts)) None
+    (Some (record { counts = f.counts ++ n ∷ []; words = f.words })))
 
 -- at most eight words
 unfoldable pub with_word : Fields → ℕ → Option Fields
 with_word f w =
-    cond (leb 8 (length f.words.items)) None
-    (Some (record { counts = f.counts; words = record { items = f.words.items ++ w ∷ [] } }))
+    cond (leb 8 (length f.words)) None
+    (Some (record { counts = f.counts; words = f.words ++ w ∷ [] }))
 
 -- a field of eight bytes is to be a word, and any other a count
 unfoldable pub with_field : Fields → List ℕ → Option Fields
@@ -73,8 +74,13 @@ with_fields f [] = Some f
 with_fields f (p ∷ ps) = option_and_then (λ g. with_fields g ps) (with_field f p)
 
 unfoldable pub no_fields : Fields
-no_fields = record { counts = record { items = [] }; words = record { items = [] } }
+no_fields = record { counts = []; words = [] }
 
--- the fields of what stands after a key, if each can be read
-unfoldable pub fields_of : List ℕ → Option Fields
-fields_of s = with_fields no_fields (parts s)
+-- with those of the fields that can be read
+unfoldable pub with_readable : Fields → List (List ℕ) → Fields
+with_readable f [] = f
+with_readable f (p ∷ ps) = with_readable (unwrap_or (with_field f p) f) ps
+
+-- the fields of what stands after a key, if each can be read, and else those that can
+unfoldable pub fields_of : List ℕ → Result Fields Malformed
+fields_of s = ok_or (with_fields no_fields (parts s)) (record { fields = with_readable no_fields (parts s) })

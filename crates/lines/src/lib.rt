@@ -1,17 +1,52 @@
-// Lines of a stored list, as the programs that run one read them: where a line or a field ends, a comment, a key,
+// Lines of a stored list, as the programs that run one read them: where a part ends, a comment, a key,
 // and the fields after it, each a count or a word. The definitions are in `specs/Lines.antt`.
 #![tactic(auto)]
 
 ghost use Rattle.std.specs.Prelude.{◌≡◌, ◌≤◌, length};
 ghost use Rattle.lines.specs.Lines.{digit_of, spelled_in, word_of, count_of, length_until, is_comment, key_of, after_key, with_count, with_word, with_field, no_fields, fields_of};
 
-use arrayvec::ArrayVec;
+use std::marker::Model;
 
-// The fields of a line: at most two counts, before all words, of which there are at most eight.
-#[derive(Drop)]
+// The most counts and words of a line.
+const MOST_COUNTS: usize = 2;
+
+const MOST_WORDS: usize = 8;
+
+// The fields of a line: the first `counted` counts, and the first `worded` words, before which all counts stand. A place
+// past the last is 0, so that the lists give the fields back. No ArrayVec, since that is not `Copy`.
+#[derive(Clone, Copy)]
 pub struct Fields {
-    pub counts: ArrayVec<usize, 2>,
-    pub words: ArrayVec<u32, 8>,
+    pub counts: [usize; MOST_COUNTS],
+    pub counted: usize,
+    pub words: [u32; MOST_WORDS],
+    pub worded: usize,
+}
+
+impl Model for Fields {
+    ghost use Rattle.std.specs.Prelude.{take, length};
+    ghost use Rattle.lines.specs.Fields.{Lists, filled, IsFilled, filled_back};
+    ghost use Rattle.std.proofs.Common.{length-take-le};
+
+    ghost Value = { Lists };
+
+    ghost view = { λ f. record { counts = take f.counted f.counts; words = take f.worded f.words } };
+
+    ghost invariant = { λ f. IsFilled 2 f.counted f.counts × IsFilled 8 f.worded f.words };
+
+    ghost inverse = { λ v. record { counts = filled 2 v.counts; counted = length v.counts; words = filled 8 v.words; worded = length v.words } };
+
+    ghost inverse_ok = { λ f h i. record {
+      counts = filled_back 2 f.counted f.counts h.0 i;
+      counted = length-take-le f.counted f.counts h.0.0 i;
+      words = filled_back 8 f.worded f.words h.1 i;
+      worded = length-take-le f.worded f.words h.1.0 i;
+    } };
+}
+
+// Why a line is malformed is not said, but which of its fields can be read.
+#[derive(Clone, Copy)]
+pub struct Malformed {
+    pub fields: Fields,
 }
 
 // How many bytes stand before the first `byte`.
@@ -108,9 +143,25 @@ impl Fields {
         ensures { result ≡ no_fields }
     {
         Fields {
-            counts: ArrayVec::new(),
-            words: ArrayVec::new(),
+            counts: [0; MOST_COUNTS],
+            counted: 0,
+            words: [0; MOST_WORDS],
+            worded: 0,
         }
+    }
+
+    // The counts, in order.
+    pub fn counts(&self) -> &[usize]
+        ensures { result.now ≡ self.now.counts }
+    {
+        &self.counts[..self.counted]
+    }
+
+    // The words, in order.
+    pub fn words(&self) -> &[u32]
+        ensures { result.now ≡ self.now.words }
+    {
+        &self.words[..self.worded]
     }
 
     // `usize` is not `From<u32>`, so a word that counts is cast.
@@ -119,10 +170,11 @@ impl Fields {
     fn with_count(mut self, count: u32) -> Option<Fields>
         ensures { result ≡ with_count self count }
     {
-        if !self.words.is_empty() {
+        if self.worded != 0 || self.counted == MOST_COUNTS {
             return None;
         }
-        self.counts.try_push(count as usize).ok()?;
+        self.counts[self.counted] = count as usize;
+        self.counted += 1;
         Some(self)
     }
 
@@ -131,7 +183,11 @@ impl Fields {
     fn with_word(mut self, word: u32) -> Option<Fields>
         ensures { result ≡ with_word self word }
     {
-        self.words.try_push(word).ok()?;
+        if self.worded == MOST_WORDS {
+            return None;
+        }
+        self.words[self.worded] = word;
+        self.worded += 1;
         Some(self)
     }
 
@@ -148,17 +204,25 @@ impl Fields {
     }
 }
 
-// The fields of what stands after a key, a space between two; nothing where one of them can't be read.
+// The fields of what stands after a key, a space between two; where one of them can't be read, those that can.
 #[tactic(auto, using(crate::proofs::Parts::one_by_one), unfolding(crate::specs::Lines::fields_of))]
-pub fn read_fields(text: &[u8]) -> Option<Fields>
+pub fn read_fields(text: &[u8]) -> Result<Fields, Malformed>
     ensures { result ≡ fields_of text.now }
 {
     let mut fields = Fields::none();
+    let mut is_malformed = false;
     let mut rest = text;
     // no `split`: that has a part more behind a space at the end
     while !rest.is_empty() {
-        fields = fields.with_field(key(rest))?;
+        match fields.with_field(key(rest)) {
+            Some(more) => fields = more,
+            None => is_malformed = true,
+        }
         rest = after_key(rest);
     }
-    Some(fields)
+    if is_malformed {
+        Err(Malformed { fields })
+    } else {
+        Ok(fields)
+    }
 }

@@ -13,18 +13,24 @@ mod pairs;
 mod report;
 
 use console::arguments::ask_for_help;
-use console::lists::{ListProgram, Lists, Place};
+use console::lists::{ListProgram, ListSpace, Lists, Place, run_list};
 use console::programs::run_named;
 use pairs::Line;
 use report::Tally;
-use std::io::Result;
+use std::io::{Read, Result};
 use vectors::number::{from_word, to_word};
 use vectors::root::root;
 
+// The most bytes of a list.
+const MOST_BYTES: usize = 4096;
+
 impl ListProgram for Tally {
-    const MOST_BYTES: usize = 4096;
+    const MOST_BYTES: usize = MOST_BYTES;
 
     const KIND: &'static [u8] = b"PAIRS";
+
+    // a name is written by itself, as in `say_malformed`
+    const SHORT_NAME: usize = 0;
 
     fn cases(&self) -> u64 {
         self.pairs
@@ -40,6 +46,18 @@ impl ListProgram for Tally {
             Line::Comment => Ok(()),
             Line::Malformed => report::say_malformed(rt, place),
         }
+    }
+}
+
+impl ListSpace for Tally {
+    fn run_in_space(
+        &mut self,
+        rt: &(impl Print + Eprint),
+        input: &mut impl Read,
+        name: &[u8],
+    ) -> Result<()> {
+        let mut space = [0u8; MOST_BYTES + 1];
+        run_list(rt, input, name, &mut space, self)
     }
 }
 

@@ -39,13 +39,15 @@ use avoidance::velocity::velocity;
 use cases::{Case, MOST_SCRATCH};
 use console::Line;
 use console::arguments::ask_for_help;
-use console::lists::{ListProgram, Lists, Place};
+use console::lists::{ListProgram, ListSpace, Lists, Place, run_list};
+use console::output::{SHORT_NAME_BYTES, with_name};
 use console::programs::run_named;
 use judgements::Difference;
 use planes::lent::read_request;
 use report::Tally;
 use said::{Change, Said};
 use std::io;
+use std::io::Read;
 
 // Why a line comes to nothing: it can't be read, or what it says could not be written.
 #[derive(Drop)]
@@ -113,7 +115,7 @@ impl State {
         let standard = self.standard.unwrap_or(self.case);
         self.standard = Some(standard);
         self.case = standard;
-        self.open = Some(report::with_name(rt, Line::empty(), name)?.text(b": "));
+        self.open = Some(with_name(rt, Line::empty(), name, SHORT_NAME_BYTES)?.text(b": "));
         Ok(())
     }
 
@@ -138,7 +140,7 @@ impl State {
         if key == b"case".as_slice() {
             return self.start(rt, text).map_err(Fault::Unwritten);
         }
-        let fields = lines::read_fields(text).ok_or(Fault::Malformed)?;
+        let fields = lines::read_fields(text).map_err(|_| Fault::Malformed)?;
         match said::read(key, &fields).ok_or(Fault::Malformed)? {
             Said::Change(change) => self.change(change),
             Said::Wanted(wanted) => self.answer(rt, wanted),
@@ -146,10 +148,15 @@ impl State {
     }
 }
 
+// The most bytes of a list.
+const MOST_BYTES: usize = 65536;
+
 impl ListProgram for State {
-    const MOST_BYTES: usize = 65536;
+    const MOST_BYTES: usize = MOST_BYTES;
 
     const KIND: &'static [u8] = b"CASES";
+
+    const SHORT_NAME: usize = SHORT_NAME_BYTES;
 
     fn cases(&self) -> u64 {
         self.tally.cases
@@ -173,6 +180,18 @@ impl ListProgram for State {
 
     fn end(&mut self, rt: &impl Print) -> io::Result<()> {
         self.close(rt)
+    }
+}
+
+impl ListSpace for State {
+    fn run_in_space(
+        &mut self,
+        rt: &(impl Print + Eprint),
+        input: &mut impl Read,
+        name: &[u8],
+    ) -> io::Result<()> {
+        let mut space = [0u8; MOST_BYTES + 1];
+        run_list(rt, input, name, &mut space, self)
     }
 }
 

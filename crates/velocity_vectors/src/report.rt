@@ -4,11 +4,8 @@ use super::answers::Answer;
 use super::judgements::Difference;
 use console::Line;
 use console::lists::Place;
-use console::output::say;
+use console::output::{SHORT_NAME_BYTES, say, with_name};
 use std::io::Result;
-
-// The longest name that leaves room in a `Line` for what is said with it.
-const NAME_BYTES: usize = 256;
 
 #[derive(Clone, Copy, Default)]
 pub struct Tally {
@@ -50,18 +47,10 @@ impl Tally {
             .text(b"malformed line ")
             .decimal(place.number as u64)
             .text(b" of ");
-        with_name(rt, line, place.name)?.text(b"\n").say(rt)
+        with_name(rt, line, place.name, SHORT_NAME_BYTES)?
+            .text(b"\n")
+            .say(rt)
     }
-}
-
-// A line up to the name in it. Where the name is long, that is written already, and what follows is put together alone.
-pub(crate) fn with_name(rt: &impl Print, line: Line, name: &[u8]) -> Result<Line> {
-    if name.len() <= NAME_BYTES {
-        return Ok(line.text(name));
-    }
-    line.say(rt)?;
-    say(rt, name)?;
-    Ok(Line::empty())
 }
 
 // `u64` is not `From<usize>`, so what is counted by a usize is cast.

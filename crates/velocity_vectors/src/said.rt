@@ -27,7 +27,7 @@ pub enum Said<'a> {
 
 // What a key says with the fields that it asks for; nothing with others.
 pub(crate) fn read<'a>(key: &[u8], fields: &'a Fields) -> Option<Said<'a>> {
-    match (key, fields.counts.as_slice(), fields.words.as_slice()) {
+    match (key, fields.counts(), fields.words()) {
         (b"at", &[at], words @ [_, ..]) => Some(Said::Change(Change::Numbers { at, words })),
         (b"cut", &[length], []) => Some(Said::Change(Change::Length(length))),
         (b"scratch", &[length], &[fill]) => Some(Said::Change(Change::Scratch { length, fill })),
