@@ -48,13 +48,13 @@ fn on_sphere(relation: Relation, horizon: f32, center: Vec3, from_center: Vec3) 
     ensures { result ≡ on_sphere relation horizon center from_center }
 {
     let radius = relation.radius_sum / horizon;
-    let normalized = from_center.normalize_or_zero();
-    let normal = normalized.unwrap_or(Vec3::zero());
+    let outward = from_center.normalize_or_zero();
+    let normal = outward.unwrap_or(Vec3::zero());
     Projection {
         normal,
         value: normal.mul(radius).add(center),
         inside: from_center.length_squared() < radius * radius,
-        unseen: normalized.is_none(),
+        unseen: outward.is_none(),
     }
 }
 
