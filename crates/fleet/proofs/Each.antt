@@ -5,9 +5,8 @@ use Prim.Native.Nat.{ℕ, zero, suc, ◌+◌, ◌≤◌, ◌<◌}
 use native.Mathlib.Nat.{not-suc-le-zero, le_of_suc-le-suc}
 use native.Mathlib.Numerals.{add-one}
 use native.Mathlib.Omega.{arith}
-use lib.ListN.{length, get_or, take, drop, set, drop_of_length-le}
-use lib.Seq.{take-suc-set, take_all, take_at, drop-set-lt}
-use Rattle.std.specs.List.{refill}
+use lib.ListN.{length, get_or, take, drop, set, length-set, drop_of_length-le}
+use lib.Seq.{take-suc-set, take_all, drop-set-lt}
 use Rattle.fleet.specs.Tick.{each}
 use Rattle.fleet.proofs.Lists.{Every}
 
@@ -73,8 +72,7 @@ module _ {A B : Type 0} (f : A → B → A) where
   unfolding each
   changed_all i xs ys past = rw (take_all i xs past, drop_of_length-le xs past) (append-nil xs)
 
--- a slice of all of a list, written back
-pub written_back : {A : Type 0} (n : ℕ) (xs ws : List A) → length ws ≡ n → refill n xs ws ≡ ws
-written_back n xs ws long = take_at ws (drop (length ws) xs) n long
+pub as_long : {A : Type 0} (xs : List A) (i : ℕ) (x : A) → length (set xs i x) ≡ length xs
+as_long xs i x = length-set xs i x
 
-pub ruleset changes = (changed_more, changed_all, written_back)
+pub ruleset changes = (changed_more, changed_all, as_long)

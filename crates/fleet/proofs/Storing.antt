@@ -1,12 +1,14 @@
 -- What is stored stays so, and so does what is held: by a goal, a plan and a tick's end, one record and one vector at a time and in lists.
 --     goal-stored, goals-stored, moved-stored; none-storable, held-storable; goal-storable, plans-storable
+--     none-past, held-past, plans-past: nothing is held past the last agent
 use mathlib.Core.Path.{◌≡◌, refl, sym, ap, ◌∙◌, subst}
 use mathlib.Core.Bool.{Bool, true, false, cond}
 use mathlib.Core.List.{List}
-use Prim.Native.Nat.{ℕ, ◌+◌, ◌<◌, ◌≤◌}
+use Prim.Native.Nat.{ℕ, zero, suc, ◌+◌, ◌<◌, ◌≤◌}
 use native.Mathlib.Omega.{arith}
 use lib.Ieee.{Float}
-use lib.ListN.{length, get_or, take, length-set, length-replicate, get_or-replicate}
+use lib.ListN.{length, get_or, take, replicate, length-set, length-replicate, get_or-replicate}
+use Rattle.std.proofs.lemmas.List.{get_or-set_other}
 use borrow.Author.Tests.{not-false}
 use Rattle.std.specs.Prelude.{Option, Some, None}
 use Rattle.vectors.specs.declared.Vec3.{Vec3}
@@ -33,7 +35,7 @@ use Rattle.planner.proofs.Replies.{reply-is, preferred-is-binary32}
 use Rattle.fleet.specs.Table.{nothing_held}
 use Rattle.fleet.specs.Tick.{goal_fault, goal_verdict, with_held, goal_taken, goals_taken, unplanned, arrival, astray, moved_by, arrivals, all_moved, close_verdict}
 use Rattle.fleet.specs.Plan.{plans_after}
-use Rattle.fleet.specs.Sound.{Stored, Storable, AllStorable}
+use Rattle.fleet.specs.Sound.{Stored, Storable, AllStorable, NoneFrom}
 use Rattle.fleet.proofs.Lists.{Every, every_set}
 use Rattle.fleet.proofs.Each.{each_at, each-length, each-every}
 
@@ -54,6 +56,23 @@ held-storable slots index v all ok =
       many = many;
       each = λ i h. every_set Storable None slots index (Some v) (λ j k. all.each j (omega (arith, k, all.many))) ok i (omega (arith, h, many));
     }
+
+-- what is held for an agent leaves the places past the last one as they were
+pub held-past : (slots : List (Option Vec3)) (count index : ℕ) (v : Vec3) → index < count → NoneFrom count slots → NoneFrom count (with_held slots index v)
+unfolding with_held
+held-past slots count index v among none i past = get_or-set_other slots index i (Some v) None (λ same. omega (arith, among, past, same)) ∙ none i past
+
+pub none-past : (count : ℕ) → NoneFrom count nothing_held
+unfolding nothing_held
+none-past count i past = replicate-none most_agents i
+  where
+    nothing : Option Vec3
+    nothing = None
+
+    replicate-none : (n i : ℕ) → get_or (replicate n nothing) i nothing ≡ nothing
+    replicate-none zero i = refl
+    replicate-none (suc n) zero = refl
+    replicate-none (suc n) (suc i) = replicate-none n i
 
 -- ---- what comes to be held
 
@@ -97,6 +116,15 @@ plans-storable time_step rule rs index k plans all = go (is_answered reply) refl
     go : (b : Bool) → is_answered reply ≡ b → AllStorable (cond b (with_held plans index (velocity_of reply)) plans)
     go true is = held-storable plans index (velocity_of reply) all (answer-storable time_step rule rs index k is)
     go false is = all
+
+pub plans-past : (time_step : Float) (rule : Rule) (rs : List Record) (index k : ℕ) (plans : List (Option Vec3)) → index < length rs → NoneFrom (length rs) plans
+    → NoneFrom (length rs) (plans_after plans index (reply_for time_step rule rs index k))
+unfolding plans_after
+plans-past time_step rule rs index k plans among none = go (is_answered (reply_for time_step rule rs index k))
+  where
+    go : (b : Bool) → NoneFrom (length rs) (cond b (with_held plans index (velocity_of (reply_for time_step rule rs index k))) plans)
+    go true = held-past plans (length rs) index (velocity_of (reply_for time_step rule rs index k)) among none
+    go false = none
 
 -- ---- one record
 

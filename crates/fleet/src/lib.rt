@@ -36,7 +36,7 @@ pub struct Tick {
 // What stands, in a tick and between ticks: the agents' records; the tick that is open, if one is; and for each agent
 // the velocity planned and the last goal set in it. Only the calls make one.
 // Plans and goals stand beside the records, not in them: calls outside a tick hand on records alone, and `Sound` has a clause for each.
-#[derive(Clone, Drop)]
+#[derive(Clone, Copy)]
 pub struct Fleet {
     standing: Records,
     tick: Option<Tick>,
@@ -46,7 +46,7 @@ pub struct Fleet {
 
 // What a call hands back. Refused, it is the very fleet that was given.
 // No Result: each call hands a fleet back, a refused one too (docs/DEFINITION.md, "The tick").
-#[derive(Clone, Drop)]
+#[derive(Clone, Copy)]
 pub struct Called {
     pub answer: Answer,
     pub fleet: Fleet,
@@ -54,7 +54,7 @@ pub struct Called {
 
 // What the call save hands back: the fleet that was given, and how many bytes it wrote. Refused, none.
 // No Result: each call answers by the one type whose number and place `specs/Answer.antt` defines.
-#[derive(Clone, Drop)]
+#[derive(Clone, Copy)]
 pub struct Saved {
     pub answer: Answer,
     pub fleet: Fleet,
@@ -63,7 +63,7 @@ pub struct Saved {
 
 // What the call read hands back. Refused, the words are zeros.
 // No Result: each call answers by the one type whose number and place `specs/Answer.antt` defines.
-#[derive(Clone, Drop)]
+#[derive(Clone, Copy)]
 pub struct Read {
     pub answer: Answer,
     pub words: [u32; RECORD_WORDS],

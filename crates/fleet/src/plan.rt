@@ -43,7 +43,13 @@ fn plan_open(fleet: Fleet, tick: Tick, index: usize, scratch: &mut [f32]) -> Cal
     if let Err(refusal) = fleet.has_agent(index) {
         return refused(fleet, refusal);
     }
-    let reply = reply_for(tick.time_step, tick.rule, &fleet.standing, index, scratch);
+    let reply = reply_for(
+        tick.time_step,
+        tick.rule,
+        fleet.standing.as_slice(),
+        index,
+        scratch,
+    );
     answered(fleet, index, reply)
 }
 

@@ -33,7 +33,7 @@ impl Fleet {
                 bytes: 0,
             };
         }
-        write_records(buffer, &self.standing);
+        write_records(buffer, self.standing.as_slice());
         Saved {
             answer: Answer::Done,
             fleet: self,

@@ -87,7 +87,11 @@ impl Fleet {
     pub(crate) fn record_at(&self, index: usize) -> Record
         ensures { result ≡ get_or (agents self.now) index blank }
     {
-        self.standing.get(index).copied().unwrap_or(Record::blank())
+        self.standing
+            .as_slice()
+            .get(index)
+            .copied()
+            .unwrap_or(Record::blank())
     }
 
     // Whether an agent has that index.
@@ -136,7 +140,7 @@ impl Fleet {
     }
 
     // The fleet outside a tick, with one agent more.
-    #[tactic(auto, unfolding(crate::specs::Table::added))]
+    #[tactic(auto, using(records::proofs::Filled::pushed_within), unfolding(crate::specs::Table::added))]
     fn added(mut self, stored: Record) -> Fleet
         requires { length (agents self) < most_agents }
         ensures { result ≡ added self stored }
@@ -150,12 +154,12 @@ impl Fleet {
         requires { index < length (agents self) }
         ensures { result ≡ with_record self index stored }
     {
-        self.standing[index] = stored;
+        self.standing.put(index, stored);
         holding_nothing(None, self.standing)
     }
 
     // The fleet outside a tick, without the agent at `index`.
-    #[tactic(auto, unfolding(crate::specs::Table::removed))]
+    #[tactic(auto, unfolding(crate::specs::Table::removed, records::specs::List::without))]
     fn removed(mut self, index: usize) -> Fleet
         requires { index < length (agents self) }
         ensures { result ≡ removed self index }

@@ -66,8 +66,9 @@ fn goal_taken(stored: Record, goal: Option<Vec3>) -> Record
 fn goals_taken(mut records: Records, goals: [Option<Vec3>; MOST_AGENTS]) -> Records
     ensures { result.items ≡ goals_taken records.items goals }
 {
-    for (index, stored) in records.iter_mut().enumerate() {
-        *stored = goal_taken(*stored, goals[index]);
+    for index in 0..records.len() {
+        let stored = records.as_slice()[index];
+        records.put(index, goal_taken(stored, goals[index]));
     }
     records
 }
@@ -118,8 +119,9 @@ fn moved_by(time_step: f32, stored: Record, plan: Option<Vec3>) -> Record
 fn all_moved(time_step: f32, mut records: Records, plans: [Option<Vec3>; MOST_AGENTS]) -> Records
     ensures { result.items ≡ all_moved time_step records.items plans }
 {
-    for (index, stored) in records.iter_mut().enumerate() {
-        *stored = moved_by(time_step, *stored, plans[index]);
+    for index in 0..records.len() {
+        let stored = records.as_slice()[index];
+        records.put(index, moved_by(time_step, stored, plans[index]));
     }
     records
 }
@@ -160,7 +162,7 @@ fn ended(records: Records, goals: [Option<Vec3>; MOST_AGENTS]) -> Fleet
 fn close_open(fleet: Fleet, time_step: f32) -> Called
     ensures { result ≡ close_open time_step fleet }
 {
-    match close_verdict(time_step, &fleet.standing, &fleet.plans) {
+    match close_verdict(time_step, fleet.standing.as_slice(), &fleet.plans) {
         Ok(()) => done(ended(
             all_moved(time_step, fleet.standing, fleet.plans),
             fleet.goals,

@@ -1,5 +1,6 @@
 -- Laws that more than one proof cites, and what is proved of the definitions themselves.
 pub mod BadSteps
+pub mod Filled
 pub mod Parts
 pub mod InTurn
 pub mod Within

@@ -43,7 +43,7 @@ pub(crate) fn whole_file(bytes: usize) -> Result<(), Refusal>
 }
 
 // The records of a whole file. The first bad one decides.
-#[tactic(auto, using(crate::proofs::InTurn::in_turn), unfolding(crate::specs::File::decoded_records))]
+#[tactic(auto, using(crate::proofs::InTurn::in_turn, crate::proofs::Filled::pushing), unfolding(crate::specs::File::decoded_records))]
 fn decoded_records(file: &[u8]) -> Result<Records, Refusal>
     requires { length file.now / record_bytes ≤ most_agents }
     ensures { result ≡ decoded_records file.now }

@@ -6,9 +6,10 @@
 pub mod agents;
 pub mod checks;
 pub mod file;
+pub mod list;
 pub mod reader;
 
-use arrayvec::ArrayVec;
+use std::marker::Model;
 
 // The words of a record, and its bytes in a file.
 pub const RECORD_WORDS: usize = 19;
@@ -46,8 +47,35 @@ pub struct Record {
     pub words: [u32; RECORD_WORDS],
 }
 
-// As many records as there can be agents, or fewer.
-pub type Records = ArrayVec<Record, MOST_AGENTS>;
+// As many records as there can be agents, or fewer: a list, as an `ArrayVec` is one, and `Copy`, which that is not.
+#[derive(Debug, Clone, Copy, PartialEq, Eq)]
+pub struct Records {
+    count: usize,
+    slots: [Record; MOST_AGENTS],
+}
+
+impl Model for Records {
+    ghost use Rattle.std.specs.Prelude.{◌≡◌, ◌≤◌, length, take};
+    ghost use Rattle.std.proofs.Common.{sym, ap, arith, length-append, length-take-le};
+    ghost use Rattle.std.proofs.lemmas.List.{length-take, length-replicate};
+    ghost use Rattle.arrayvec.specs.ArrayVec.{ArrayVec};
+    ghost use Rattle.records.specs.declared.Record.{Record};
+    ghost use Rattle.records.specs.Record.{most_agents};
+    ghost use Rattle.records.specs.List.{filled};
+
+    ghost Value = { ArrayVec Record };
+
+    ghost view = { λ v. record { items = take v.count v.slots } };
+
+    ghost invariant = { λ v. (v.count ≤ most_agents) × (v.slots ≡ filled (take v.count v.slots)) };
+
+    ghost inverse = { λ v. record { count = length v.items; slots = filled v.items } };
+
+    ghost inverse_ok = { λ v h i. record {
+      count = length-take-le v.count v.slots (omega (arith, simp (length-append, length-replicate) at (ap length h.1), length-take v.count v.slots, h.0)) i;
+      slots = sym h.1 i;
+    } };
+}
 
 // A lent file, and the index of the record to hand out: document 01 fixes this form of a reader.
 #[derive(Clone, Copy)]

@@ -17,7 +17,7 @@ returns c =
     let tick = c.args.tick in
     let index = c.args.index in
     let there : has_agent fleet index ≡ passed = sym c.has_agent.ensures.verdict ∙ c.in_default.is in
-    let all : take 64 c.deref.result.now ≡ agents fleet = take_all 64 c.deref.result.now c.deref.ensures.1 ∙ c.deref.ensures.0 in
+    let all : take 64 c.as_slice.result.now ≡ agents fleet = take_all 64 c.as_slice.result.now c.as_slice.ensures.within ∙ c.as_slice.ensures.items in
     record {
       answer = rw there (c.answered.ensures ∙ ap (answered_by passed fleet index) (c.reply_for-reply.ensures.answer ∙ ap (λ (rs : List Record). reply_for tick.time_step tick.rule rs index (length c.args.scratch.now)) all));
       scratch = rw there (c.reply_for-reply.ensures.scratch ∙ ap (λ (rs : List Record). reply_scratch tick.time_step tick.rule rs index c.args.scratch.now) all);
