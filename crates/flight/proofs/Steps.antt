@@ -1,7 +1,7 @@
 -- What follows a call that is refused, and one that is not.
 use mathlib.Core.Path.{◌≡◌, refl, sym, ap, ◌∙◌}
 use mathlib.Core.Bool.{Bool, true, false, not}
-use Prim.Native.Nat.{ℕ, suc, ◌+◌, ◌-◌, ◌<◌}
+use Prim.Native.Nat.{ℕ, zero, suc, ◌+◌, ◌-◌, ◌<◌}
 use native.Mathlib.Omega.{arith}
 use lib.Ieee.{Float}
 use borrow.Author.Tests.{eqb-true, eq-eqb, ne_eqb, not-false}
@@ -28,7 +28,7 @@ unfolding is_refused
 answers-zero last e = eqb-true (number last.answer) 0 (not-false _ e)
 
 pub answers-more : (last : Called) → is_refused last ≡ true → number last.answer ≡ 0 → ⊥
-answers-more last e zero = no_truth (sym (not-refused last zero) ∙ e)
+answers-more last e is = no_truth (sym (not-refused last is) ∙ e)
 
 -- ---- a call after another
 
@@ -82,6 +82,13 @@ module _ (fleet : Fleet) (time_step : Float) (rule : Rule) (opened : Called) (is
 
 -- ---- ticks one after another
 
+-- a tick that is refused is what those that are left come to
+pub turn-refused : (left : ℕ) (time_step : Float) (rule : Rule) (fleet : Fleet) (last : Called) → last ≡ one_tick time_step rule fleet → 0 < left
+    → is_refused last ≡ true → last ≡ ticks_in_turn left time_step rule fleet
+unfolding ticks_in_turn
+turn-refused zero time_step rule fleet last is some e = absurd (omega arith)
+turn-refused (suc left) time_step rule fleet last is some e = rw (← is) (handed-on last (ticks_in_turn left time_step rule) e)
+
 -- one tick of those that are left
 pub turn_done : (count counter : ℕ) (time_step : Float) (rule : Rule) (fleet : Fleet) (last : Called) → last ≡ one_tick time_step rule fleet → counter < count
     → is_refused last ≡ false → ticks_in_turn (count - (counter + 1)) time_step rule last.fleet ≡ ticks_in_turn (count - counter) time_step rule fleet
@@ -89,3 +96,5 @@ unfolding ticks_in_turn unless_refused
 turn_done count counter time_step rule fleet last is more goes =
     let left : count - counter ≡ suc (count - (counter + 1)) = omega arith in
     simp (left, ← is, goes)
+
+pub ruleset turns = (turn_done, turn-refused)

@@ -84,8 +84,9 @@ pub fn one_tick(fleet: Fleet, time_step: f32, rule: Rule) -> Called
 }
 
 // So many ticks one after another. The first that is refused ends them: its answer is handed back, and the fleet after
-// the ticks before it.
-#[tactic(auto, using(crate::proofs::Steps::turn_done), unfolding(crate::specs::Tick::ticks_in_turn, crate::specs::Tick::unless_refused))]
+// the ticks before it. Not taken into `file_flown`: a file that is refused asks for none of a tick's stack.
+#[inline(never)]
+#[tactic(auto, using(crate::proofs::Steps::turns), unfolding(crate::specs::Tick::ticks_in_turn, crate::specs::Tick::unless_refused))]
 pub fn ticks_in_turn(mut fleet: Fleet, count: usize, time_step: f32, rule: Rule) -> Called
     ensures { result ≡ ticks_in_turn count time_step rule fleet }
 {

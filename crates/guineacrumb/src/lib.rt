@@ -101,6 +101,8 @@ pub extern "C" fn guineacrumb_velocity(
     reply.number()
 }
 
+// Not taken into `guineacrumb_tick`, which would then ask for all the stack of a tick where the rule is none.
+#[inline(never)]
 fn ticked(file: &mut [u8], time_step: f32, rule: Rule, place: &mut u64) -> u32
     ensures answer { result ≡ number (file_flown file.old 1 time_step rule).answer }
     ensures file { file.new ≡ file_after file.old time_step rule }
