@@ -70,32 +70,30 @@ pub(crate) struct Spots {
     ghost squared: { Squares agents xs ys zs squares },
 }
 
-// Every agent's millimetres along one axis.
+// Every agent's millimetres along one axis, into an array that is lent: one handed out by value is copied.
 #[tactic(auto, using(crate::proofs::WithinReach::reached_frames))]
-fn along(frame: AcceptedFrame, axis: usize) -> [u32; MOST_AGENTS]
+fn along(frame: AcceptedFrame, axis: usize, places: &mut [u32; MOST_AGENTS])
     requires { axis < 3 }
-    ensures value { Along frame.entry.agents axis frame.entry.numbers.now result }
-    ensures near { Near frame.entry.agents result }
+    ensures value { Along frame.entry.agents axis frame.entry.numbers.now places.new }
+    ensures near { Near frame.entry.agents places.new }
 {
-    let mut places = [0u32; MOST_AGENTS];
     for agent in 0..frame.agents {
         places[agent] = from_corner(frame.numbers[3 * agent + axis]);
     }
-    places
 }
 
-// Every agent's squared distance from the corner.
+// Every agent's squared distance from the corner, likewise.
 fn from_corner_squared(
     xs: &[u32; MOST_AGENTS],
     ys: &[u32; MOST_AGENTS],
     zs: &[u32; MOST_AGENTS],
     agents: usize,
-) -> [u64; MOST_AGENTS]
+    squares: &mut [u64; MOST_AGENTS],
+)
     requires few { agents ≤ most_agents }
     requires near { Near agents xs.now × Near agents ys.now × Near agents zs.now }
-    ensures { Squares agents xs.now ys.now zs.now result }
+    ensures { Squares agents xs.now ys.now zs.now squares.new }
 {
-    let mut squares = [0u64; MOST_AGENTS];
     for agent in 0..agents {
         let position = FromCorner {
             x: xs[agent],
@@ -104,7 +102,6 @@ fn from_corner_squared(
         };
         squares[agent] = position.dot(position);
     }
-    squares
 }
 
 impl Spots {
@@ -113,17 +110,27 @@ impl Spots {
     pub(crate) fn of(frame: AcceptedFrame) -> Spots
         ensures { SpotsOf frame.entry.numbers.now result }
     {
-        let xs = along(frame, 0);
-        let ys = along(frame, 1);
-        let zs = along(frame, 2);
-        let squares = from_corner_squared(&xs, &ys, &zs, frame.agents);
-        Spots {
-            agents: frame.agents,
-            xs,
-            ys,
-            zs,
-            squares,
-        }
+        let mut spots = Spots {
+            agents: 0,
+            xs: [0; MOST_AGENTS],
+            ys: [0; MOST_AGENTS],
+            zs: [0; MOST_AGENTS],
+            squares: [0; MOST_AGENTS],
+        };
+        // the whole is lent first: fields are lent as `&` beside one as `&mut`
+        let lent = &mut spots;
+        along(frame, 0, &mut lent.xs);
+        along(frame, 1, &mut lent.ys);
+        along(frame, 2, &mut lent.zs);
+        from_corner_squared(
+            &lent.xs,
+            &lent.ys,
+            &lent.zs,
+            frame.agents,
+            &mut lent.squares,
+        );
+        lent.agents = frame.agents;
+        spots
     }
 
     pub(crate) fn at(&self, agent: usize) -> Spot
