@@ -56,7 +56,8 @@ impl<'a, R: Eprint, I: Read> Source<'a, R, I> {
     fn reads_file(&mut self, space: &mut [u8], length: u32) -> bool {
         let length = length as usize;
         let held = length.min(space.len());
-        self.fills(&mut space[..held]) && self.passes(length - held)
+        // nearly every file has its room: the space that passing over takes is made for none of these
+        self.fills(&mut space[..held]) && (held == length || self.passes(length - held))
     }
 
     // The length of the fleet file at the start, which is put into the space, as far as that takes it.

@@ -38,7 +38,7 @@ const LAST_START: usize = usize::MAX - CALL_BYTES - 0xFFFF_FFFF;
 // Where no fleet could be loaded.
 fn end_unread(rt: &impl Print) -> Result<()> {
     report::say_unreadable(rt, 0)?;
-    report::say_fleet(rt, Fleet::empty())
+    report::say_fleet(rt, &Fleet::empty())
 }
 
 // Makes the calls that are left, the first of which is at the byte `start`. A `while`, and no `for`: a call and the file that
@@ -55,7 +55,7 @@ fn make_calls<R: Print + Eprint>(
     while at <= LAST_START {
         match source.next_call(file) {
             Ok(Some(call)) => {
-                fleet = making::make(rt, fleet, call, file)?;
+                making::make(rt, &mut fleet, call, file)?;
                 at += CALL_BYTES + call.file_length() as usize;
             }
             Ok(None) => break,
@@ -65,7 +65,7 @@ fn make_calls<R: Print + Eprint>(
             }
         }
     }
-    report::say_fleet(rt, fleet)
+    report::say_fleet(rt, &fleet)
 }
 
 #[derive(Drop)]
@@ -93,7 +93,8 @@ impl Program for Replay {
             return end_unread(rt);
         };
         let length = length as usize;
-        let fleet = making::load(rt, Fleet::empty(), &file, length)?;
+        let mut fleet = Fleet::empty();
+        making::load(rt, &mut fleet, &file, length)?;
         make_calls(&mut source, &mut file, fleet, 4 + length)
     }
 

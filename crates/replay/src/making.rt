@@ -1,7 +1,7 @@
 // Calls made on a fleet. `Call::read` lets none pass whose scratch or buffer is over its limit.
 use super::calls::{Call, MOST_BUFFER, MOST_SCRATCH};
 use super::report;
-use fleet::{Answer, Called, Fleet, Saved};
+use fleet::{Answer, Called, Fleet};
 use records::reader::read_record;
 use refusals::Refusal;
 use std::io::Result;
@@ -26,27 +26,45 @@ fn answer_with_length(answer: Answer, length: usize) -> Answer {
     }
 }
 
-// Says what a call answers, and hands its fleet on.
-fn told(rt: &impl Print, called: Called) -> Result<Fleet> {
+// A function clears the room of all its locals when it is entered, and a fleet is large: so what is done at a call stands in a function of
+// its own, which is not taken into `make`.
+
+// Says what a call answers, and keeps its fleet.
+#[inline(never)]
+fn told<F: FnOnce(Fleet) -> Called>(rt: &impl Print, fleet: &mut Fleet, call: F) -> Result<()>
+    requires { F.IsAlwaysCallable call }
+{
+    let called = call(*fleet);
     report::say_answer(rt, called.answer)?;
-    Ok(called.fleet)
+    *fleet = called.fleet;
+    Ok(())
 }
 
-// Loads a file of that length, as much of which stands in `file` as there is room for: the length is apart, since no slice has
+// The fleet of a file of that length, as much of which stands in `file` as there is room for: the length is apart, since no slice has
 // one that it doesn't hold.
-pub(crate) fn load(rt: &impl Print, fleet: Fleet, file: &[u8], length: usize) -> Result<Fleet> {
+fn loaded(fleet: Fleet, file: &[u8], length: usize) -> Called {
     let called = fleet.load(&file[..length.min(file.len())]);
     let answer = answer_with_length(called.answer, length);
-    told(
-        rt,
-        Called {
-            answer,
-            fleet: called.fleet,
-        },
-    )
+    Called {
+        answer,
+        fleet: called.fleet,
+    }
+}
+
+// Loads such a file, and says what that answers.
+pub(crate) fn load(rt: &impl Print, fleet: &mut Fleet, file: &[u8], length: usize) -> Result<()> {
+    told(rt, fleet, |fleet| loaded(fleet, file, length))
+}
+
+// Says the words of the record at `index`.
+#[inline(never)]
+fn say_standing(rt: &impl Print, fleet: &Fleet, index: usize) -> Result<()> {
+    let standing = *fleet;
+    report::say_read(rt, &standing.read(index))
 }
 
 // Reads one record of such a file, and says it.
+#[inline(never)]
 fn say_record(rt: &impl Print, file: &[u8], length: usize, index: usize) -> Result<()> {
     match read_record(&file[..length.min(file.len())], index) {
         Ok(stored) => report::say_words(rt, stored.words),
@@ -69,52 +87,50 @@ fn marked(first: u32) -> [f32; MOST_SCRATCH] {
     numbers
 }
 
-// The fleet after a plan that shows its scratch.
+// A plan that shows its scratch.
+#[inline(never)]
 fn plan_shown(
     rt: &impl Print,
-    fleet: Fleet,
+    fleet: &mut Fleet,
     index: usize,
     length: usize,
     first: u32,
-) -> Result<Fleet> {
+) -> Result<()> {
     let mut numbers = marked(first);
     let scratch = &mut numbers[..length.min(MOST_SCRATCH)];
-    let called = fleet.plan(index, scratch);
+    let standing = *fleet;
+    let called = standing.plan(index, scratch);
     report::say_plan(rt, called.answer, scratch)?;
-    Ok(called.fleet)
+    *fleet = called.fleet;
+    Ok(())
 }
 
-fn save(rt: &impl Print, fleet: Fleet, length: usize) -> Result<Fleet> {
+// Saves into a buffer of that length, and says what it has then.
+#[inline(never)]
+fn save(rt: &impl Print, fleet: &Fleet, length: usize) -> Result<()> {
     let mut bytes = [UNTOUCHED; MOST_BUFFER];
     let buffer = &mut bytes[..length.min(MOST_BUFFER)];
-    let Saved {
-        answer,
-        fleet,
-        bytes,
-    } = fleet.save(buffer);
-    report::say_saved(rt, answer, bytes, buffer)?;
-    Ok(fleet)
+    let standing = *fleet;
+    let saved = standing.save(buffer);
+    report::say_saved(rt, saved.answer, saved.bytes, buffer)
 }
 
-// Makes a call, says what it answers and shows, and hands the fleet on. The file that follows the call, if one does,
+// Makes a call on the fleet, and says what it answers and shows. The file that follows the call, if one does,
 // stands in `file`. `usize` is not `From<u32>`, so its length is cast.
-pub(crate) fn make(rt: &impl Print, fleet: Fleet, call: Call, file: &[u8]) -> Result<Fleet> {
+pub(crate) fn make(rt: &impl Print, fleet: &mut Fleet, call: Call, file: &[u8]) -> Result<()> {
     match call {
-        Call::Add { words } => told(rt, fleet.add(words)),
-        Call::Put { index, words } => told(rt, fleet.put(index, words)),
-        Call::Remove { index } => told(rt, fleet.remove(index)),
-        Call::Read { index } => report::say_read(rt, fleet.read(index)),
-        Call::Goal { index, goal } => told(rt, fleet.goal(index, goal)),
-        Call::Open { time_step, rule } => told(rt, fleet.open(time_step, rule)),
-        Call::Plan { index, scratch } => told(rt, plan(fleet, index, scratch)),
-        Call::Close => told(rt, fleet.close()),
-        Call::Drop => told(rt, fleet.drop()),
+        Call::Add { words } => told(rt, fleet, |fleet| fleet.add(words)),
+        Call::Put { index, words } => told(rt, fleet, |fleet| fleet.put(index, words)),
+        Call::Remove { index } => told(rt, fleet, |fleet| fleet.remove(index)),
+        Call::Read { index } => say_standing(rt, fleet, index),
+        Call::Goal { index, goal } => told(rt, fleet, |fleet| fleet.goal(index, goal)),
+        Call::Open { time_step, rule } => told(rt, fleet, |fleet| fleet.open(time_step, rule)),
+        Call::Plan { index, scratch } => told(rt, fleet, |fleet| plan(fleet, index, scratch)),
+        Call::Close => told(rt, fleet, |fleet| fleet.close()),
+        Call::Drop => told(rt, fleet, |fleet| fleet.drop()),
         Call::Load { length } => load(rt, fleet, file, length as usize),
         Call::Save { length } => save(rt, fleet, length),
-        Call::Record { index, length } => {
-            say_record(rt, file, length as usize, index)?;
-            Ok(fleet)
-        }
+        Call::Record { index, length } => say_record(rt, file, length as usize, index),
         Call::PlanShown {
             index,
             scratch,

@@ -148,21 +148,20 @@ pub(crate) fn say_words(rt: &impl Print, words: [u32; RECORD_WORDS]) -> Result<(
     line.text(b"\n").say(rt)
 }
 
-// An agent's words, or a refusal's line. The fleet that was read is handed on.
-pub(crate) fn say_read(rt: &impl Print, read: Read) -> Result<Fleet> {
+// An agent's words, or a refusal's line
+pub(crate) fn say_read(rt: &impl Print, read: &Read) -> Result<()> {
     match read.answer {
-        Answer::Done => say_words(rt, read.words)?,
-        answer => say_answer(rt, answer)?,
+        Answer::Done => say_words(rt, read.words),
+        answer => say_answer(rt, answer),
     }
-    Ok(read.fleet)
 }
 
 // `fleet`, and the words of every agent
-pub(crate) fn say_fleet(rt: &impl Print, fleet: Fleet) -> Result<()> {
+pub(crate) fn say_fleet(rt: &impl Print, fleet: &Fleet) -> Result<()> {
     say(rt, b"fleet\n")?;
-    let mut fleet = fleet;
     for index in 0..fleet.agent_count() {
-        fleet = say_read(rt, fleet.read(index))?;
+        let standing = *fleet;
+        say_read(rt, &standing.read(index))?;
     }
     Ok(())
 }
