@@ -12,8 +12,8 @@ pub trait ListProgram {
     // What its cases are, in capitals.
     const KIND: &'static [u8];
 
-    // The longest name that is written at once with what is said of its list.
-    const SHORT_NAME: usize;
+    // A name of so many bytes is not written at once with what is said of its list.
+    const LONG_NAME: usize;
 
     // How many cases were run.
     fn cases(&self) -> u64;
@@ -76,7 +76,7 @@ fn run_text<P: ListProgram>(
     program.end(rt)?;
     if program.cases() == before {
         let start = Line::empty().text(b"NO ").text(P::KIND).text(b" in ");
-        with_name(rt, start, name, P::SHORT_NAME)?
+        with_name(rt, start, name, P::LONG_NAME)?
             .text(b"\n")
             .say(rt)?;
     }
@@ -85,10 +85,10 @@ fn run_text<P: ListProgram>(
 
 // `u64` is not `From<usize>`, so what is counted by a usize is cast.
 // The reason is said on standard error.
-fn say_too_long(rt: &(impl Print + Eprint), name: &[u8], short: usize, most: usize) -> Result<()> {
+fn say_too_long(rt: &(impl Print + Eprint), name: &[u8], long: usize, most: usize) -> Result<()> {
     let shown = Shown(name);
     let _ = eprintln!(rt; "{shown}: has more than {most} bytes");
-    with_name(rt, Line::empty().text(b"unreadable "), name, short)?
+    with_name(rt, Line::empty().text(b"unreadable "), name, long)?
         .text(b": has more than ")
         .decimal(most as u64)
         .text(b" bytes\n")
@@ -98,11 +98,11 @@ fn say_too_long(rt: &(impl Print + Eprint), name: &[u8], short: usize, most: usi
 fn say_unreadable(
     rt: &(impl Print + Eprint),
     name: &[u8],
-    short: usize,
+    long: usize,
     reason: &Error,
 ) -> Result<()> {
     output::complain_of(rt, name, reason);
-    with_name(rt, Line::empty().text(b"unreadable "), name, short)?
+    with_name(rt, Line::empty().text(b"unreadable "), name, long)?
         .text(b"\n")
         .say(rt)
 }
@@ -119,10 +119,10 @@ pub fn run_list<P: ListProgram>(
     let most = P::MOST_BYTES.min(space.len().saturating_sub(1));
     let Filled { bytes, failure } = inputs::fill(input, space);
     if let Some(reason) = &failure {
-        return say_unreadable(rt, name, P::SHORT_NAME, reason);
+        return say_unreadable(rt, name, P::LONG_NAME, reason);
     }
     if most < bytes {
-        return say_too_long(rt, name, P::SHORT_NAME, most);
+        return say_too_long(rt, name, P::LONG_NAME, most);
     }
     run_text(rt, name, &space[..bytes], program)
 }
@@ -143,6 +143,6 @@ impl<P: ListSpace> Program for Lists<P> {
         name: &[u8],
         reason: &Error,
     ) -> Result<()> {
-        say_unreadable(rt, name, P::SHORT_NAME, reason)
+        say_unreadable(rt, name, P::LONG_NAME, reason)
     }
 }

@@ -4,8 +4,8 @@ use super::Line;
 use std::fmt;
 use std::io::{Error, Result};
 
-// The longest name that leaves room in a `Line` for what is said with it.
-pub const SHORT_NAME_BYTES: usize = 256;
+// A name of so many bytes leaves no room in a `Line` for what is said with it.
+pub const LONG_NAME_BYTES: usize = 257;
 
 // A text, or the bytes of a file.
 pub fn say(rt: &impl Print, text: &[u8]) -> Result<()> {
@@ -19,9 +19,9 @@ impl Line {
     }
 }
 
-// A line up to the name in it. Where the name is longer than `short`, that is written already, and what follows is put together alone.
-pub fn with_name(rt: &impl Print, line: Line, name: &[u8], short: usize) -> Result<Line> {
-    if name.len() <= short {
+// A line up to the name in it. Where the name has `long` bytes or more, that is written already, and what follows is put together alone.
+pub fn with_name(rt: &impl Print, line: Line, name: &[u8], long: usize) -> Result<Line> {
+    if name.len() < long {
         return Ok(line.text(name));
     }
     line.say(rt)?;

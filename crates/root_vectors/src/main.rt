@@ -29,8 +29,8 @@ impl ListProgram for Tally {
 
     const KIND: &'static [u8] = b"PAIRS";
 
-    // a name is written by itself, as in `say_malformed`
-    const SHORT_NAME: usize = 0;
+    // every name is written by itself, as in `say_malformed`
+    const LONG_NAME: usize = 0;
 
     fn cases(&self) -> u64 {
         self.pairs

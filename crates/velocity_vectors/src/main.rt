@@ -40,7 +40,7 @@ use cases::{Case, MOST_SCRATCH};
 use console::Line;
 use console::arguments::ask_for_help;
 use console::lists::{ListProgram, ListSpace, Lists, Place, run_list};
-use console::output::{SHORT_NAME_BYTES, with_name};
+use console::output::{LONG_NAME_BYTES, with_name};
 use console::programs::run_named;
 use judgements::Difference;
 use planes::lent::read_request;
@@ -115,7 +115,7 @@ impl State {
         let standard = self.standard.unwrap_or(self.case);
         self.standard = Some(standard);
         self.case = standard;
-        self.open = Some(with_name(rt, Line::empty(), name, SHORT_NAME_BYTES)?.text(b": "));
+        self.open = Some(with_name(rt, Line::empty(), name, LONG_NAME_BYTES)?.text(b": "));
         Ok(())
     }
 
@@ -156,7 +156,7 @@ impl ListProgram for State {
 
     const KIND: &'static [u8] = b"CASES";
 
-    const SHORT_NAME: usize = SHORT_NAME_BYTES;
+    const LONG_NAME: usize = LONG_NAME_BYTES;
 
     fn cases(&self) -> u64 {
         self.tally.cases

@@ -4,7 +4,7 @@ use super::answers::Answer;
 use super::judgements::Difference;
 use console::Line;
 use console::lists::Place;
-use console::output::{SHORT_NAME_BYTES, say, with_name};
+use console::output::{LONG_NAME_BYTES, say, with_name};
 use std::io::Result;
 
 #[derive(Clone, Copy, Default)]
@@ -47,7 +47,7 @@ impl Tally {
             .text(b"malformed line ")
             .decimal(place.number as u64)
             .text(b" of ");
-        with_name(rt, line, place.name, SHORT_NAME_BYTES)?
+        with_name(rt, line, place.name, LONG_NAME_BYTES)?
             .text(b"\n")
             .say(rt)
     }
