@@ -14,5 +14,6 @@ pub mod InTurn
 pub mod Resting
 pub mod Storing
 pub mod Sound
+pub mod HeldWithin
 pub mod PassesOn
 pub mod SaveLoad

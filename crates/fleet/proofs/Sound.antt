@@ -4,7 +4,7 @@
 --     sound-run: and so does every run of calls
 use mathlib.Core.Path.{◌≡◌, refl}
 use mathlib.Core.List.{List, [], ◌∷◌, ◌++◌}
-use Prim.Native.Nat.{ℕ, suc, ◌<◌, ◌≤◌}
+use Prim.Native.Nat.{ℕ, suc, ◌≤◌}
 use native.Mathlib.Omega.{arith}
 use lib.Ieee.{Float}
 use lib.ListN.{length, get_or, take, drop, set, length-set, length-append, length-take, length-drop}
@@ -33,10 +33,10 @@ use Rattle.fleet.specs.Runs.{after}
 use Rattle.fleet.specs.Sound.{Stored, Ticking, Sound}
 use Rattle.fleet.specs.Claims.{SoundEmpty, SoundKept, SoundRun}
 use Rattle.fleet.proofs.Lists.{Every, every-none, every_one, every_append, every_take, every_drop, every_set}
-use Rattle.fleet.proofs.Verdicts.{room-passed, among-passed}
+use Rattle.fleet.proofs.Verdicts.{room-passed}
 use Rattle.fleet.proofs.Each.{each-length}
 use Rattle.fleet.proofs.HeldGoals.{fit-index}
-use Rattle.fleet.proofs.Storing.{none-storable, none-past, held-storable, held-past, goal-storable, plans-storable, plans-past, goal-stored, goals-stored, moved-stored}
+use Rattle.fleet.proofs.Storing.{none-storable, held-storable, goal-storable, plans-storable, goal-stored, goals-stored, moved-stored}
 
 -- ---- fleets of records
 
@@ -52,8 +52,6 @@ sound-holding tick rs few stored ticking =
       ticking = ticking;
       plans = none-storable;
       goals = none-storable;
-      no_plans = none-past (length rs);
-      no_goals = none-past (length rs);
     }
 
 sound-of : (rs : List Record) → length rs ≤ most_agents → AllStored rs → Sound (fleet_of rs)
@@ -118,8 +116,6 @@ module _ (fleet : Fleet) (sound : Sound fleet) where
     ticking = sound.ticking;
     plans = sound.plans;
     goals = held-storable fleet.goals index v sound.goals (goal-storable (length rs) index v are-passed is);
-    no_plans = sound.no_plans;
-    no_goals = held-past fleet.goals (length rs) index v (fit-index (length rs) index v are-passed) sound.no_goals;
   }
 
   goal-sound : (tick : Option Tick) (index : ℕ) (v : Vec3) → IsBinary32 v → goal_verdict (length rs) index v ≡ passed → Sound (goal_set tick fleet index v)
@@ -129,24 +125,21 @@ module _ (fleet : Fleet) (sound : Sound fleet) where
       set-sound index (with_goal v own) (goal-stored own v (sound.stored index (fit-index (length rs) index v are-passed)) (goal-storable (length rs) index v are-passed is))
   goal-sound (Some tick) index v is are-passed = hold-sound index v are-passed is
 
-  plan-sound : (v : Verdict) (time_step : Float) (rule : Rule) (index k : ℕ) → (v ≡ passed → index < length rs)
-      → Sound (answered_by v fleet index (reply_for time_step rule rs index k)).fleet
+  plan-sound : (v : Verdict) (time_step : Float) (rule : Rule) (index k : ℕ) → Sound (answered_by v fleet index (reply_for time_step rule rs index k)).fleet
   unfolding answered_by fleet_after
-  plan-sound (Ok _) time_step rule index k among = record {
+  plan-sound (Ok _) time_step rule index k = record {
     few = sound.few;
     stored = sound.stored;
     ticking = sound.ticking;
     plans = plans-storable time_step rule rs index k fleet.plans sound.plans;
     goals = sound.goals;
-    no_plans = plans-past time_step rule rs index k fleet.plans (among refl) sound.no_plans;
-    no_goals = sound.no_goals;
   }
-  plan-sound (Err r) time_step rule index k among = sound
+  plan-sound (Err r) time_step rule index k = sound
 
   plan-in-sound : (tick : Option Tick) (index k : ℕ) → Sound (plan_in tick fleet index k).fleet
-  unfolding plan_in plan_open has_agent
+  unfolding plan_in plan_open
   plan-in-sound None index k = sound-settled (Err NoTick) fleet fleet sound (λ e. sound)
-  plan-in-sound (Some tick) index k = plan-sound (has_agent fleet index) tick.time_step tick.rule index k (among-passed (length rs) index)
+  plan-in-sound (Some tick) index k = plan-sound (has_agent fleet index) tick.time_step tick.rule index k
 
   -- a tick that leaves these records
   ended-sound : (moved : List Record) → length moved ≡ length rs → AllStored moved → Sound (ended moved fleet.goals)

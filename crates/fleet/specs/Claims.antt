@@ -32,7 +32,7 @@ use Rattle.fleet.specs.Tick.{unplanned, astray, arrivals}
 use Rattle.fleet.specs.Plan.{plan_scratch}
 use Rattle.fleet.specs.Calls.{Call, step, plan_conditions, call_conditions}
 use Rattle.fleet.specs.Runs.{after, run, accepted, stays_open, goals_of, goal_calls, canonical}
-use Rattle.fleet.specs.Sound.{Sound, Resting, Typed, AllTyped, PassesOn}
+use Rattle.fleet.specs.Sound.{Sound, HeldWithin, Resting, Typed, AllTyped, PassesOn}
 
 -- ---- words used below
 
@@ -175,6 +175,18 @@ SoundKept = (fleet : Fleet) (call : Call) → Sound fleet → Typed call → Sou
 -- And so does every run of calls.
 abbrev pub SoundRun : Type 0
 SoundRun = (fleet : Fleet) (calls : List Call) → Sound fleet → AllTyped calls → Sound (after fleet calls)
+
+-- The empty fleet holds nothing past its last agent.
+abbrev pub WithinEmpty : Type 0
+WithinEmpty = HeldWithin (fleet_of [])
+
+-- Every call, answered or refused, on a fleet that holds nothing past its last agent hands back one that holds nothing there.
+abbrev pub WithinKept : Type 0
+WithinKept = (fleet : Fleet) (call : Call) → HeldWithin fleet → HeldWithin (step fleet call).fleet
+
+-- And so does every run of calls.
+abbrev pub WithinRun : Type 0
+WithinRun = (fleet : Fleet) (calls : List Call) → HeldWithin fleet → HeldWithin (after fleet calls)
 
 -- The empty fleet is at rest.
 abbrev pub RestsEmpty : Type 0

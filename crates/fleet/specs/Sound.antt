@@ -32,10 +32,6 @@ pub record AllStorable (held : List (Option Vec3)) : Type 0 where
   pub many : length held ≡ most_agents
   pub each : (index : ℕ) → index < most_agents → Storable (get_or held index None)
 
--- nothing is held at `count` and past it
-abbrev pub NoneFrom : ℕ → List (Option Vec3) → Type 0
-NoneFrom count held = (index : ℕ) → count ≤ index → get_or held index None ≡ None
-
 -- a tick is open only with a time step that open accepts
 abbrev pub Ticking : Option Tick → Type 0
 Ticking None = Unit {0}
@@ -47,6 +43,14 @@ pub record Sound (fleet : Fleet) : Type 0 where
   pub ticking : Ticking fleet.tick
   pub plans : AllStorable fleet.plans
   pub goals : AllStorable fleet.goals
+
+-- ---- a fleet that holds nothing past its last agent
+
+-- nothing is held at `count` and past it
+abbrev pub NoneFrom : ℕ → List (Option Vec3) → Type 0
+NoneFrom count held = (index : ℕ) → count ≤ index → get_or held index None ≡ None
+
+pub record HeldWithin (fleet : Fleet) : Type 0 where
   pub no_plans : NoneFrom (length (agents fleet)) fleet.plans
   pub no_goals : NoneFrom (length (agents fleet)) fleet.goals
 

@@ -13,7 +13,7 @@ mod pairs;
 mod report;
 
 use console::arguments::ask_for_help;
-use console::lists::{ListProgram, ListSpace, Lists, Place, run_list};
+use console::lists::{ListProgram, ListSpace, ListsInSpace, Place, run_list};
 use console::programs::run_named;
 use pairs::Line;
 use report::Tally;
@@ -65,7 +65,7 @@ fn main(rt: HostRuntime) -> Result<()> {
     if ask_for_help(&rt) {
         return help::say_help(&rt);
     }
-    let mut lists = Lists(Tally::default());
+    let mut lists = ListsInSpace(Tally::default());
     run_named(&rt, &mut lists)?;
     report::say_tally(&rt, lists.0)
 }

@@ -39,7 +39,7 @@ use avoidance::velocity::velocity;
 use cases::{Case, MOST_SCRATCH};
 use console::Line;
 use console::arguments::ask_for_help;
-use console::lists::{ListProgram, ListSpace, Lists, Place, run_list};
+use console::lists::{ListProgram, ListSpace, ListsInSpace, Place, run_list};
 use console::output::{LONG_NAME_BYTES, with_name};
 use console::programs::run_named;
 use judgements::Difference;
@@ -199,7 +199,7 @@ fn main(rt: HostRuntime) -> io::Result<()> {
     if ask_for_help(&rt) {
         return help::say_help(&rt);
     }
-    let mut lists = Lists(State::new());
+    let mut lists = ListsInSpace(State::new());
     run_named(&rt, &mut lists)?;
     report::say_tally(&rt, lists.0.tally)
 }
